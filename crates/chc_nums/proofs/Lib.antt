@@ -1,0 +1,5 @@
+pub mod Fits
+pub mod Divisors
+pub mod Quotients
+pub mod Ranges
+pub mod Ring
