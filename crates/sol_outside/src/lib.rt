@@ -1,0 +1,13 @@
+//! The outside of the program: files that are read by name, text that is written, and a gate that workers pass. Each
+//! end counts its faults; `Shelf::read` and `Sink::put` say what every answer means and when it may come.
+#![tactic(auto)]
+
+mod disk;
+mod ends;
+mod memory;
+#[cfg(test)]
+mod tests;
+
+pub use disk::{FileShelf, StdSink};
+pub use ends::{Gate, OpenGate, Shelf, ShelfFault, Sink, SinkFault};
+pub use memory::{MemShelf, MemSink};
