@@ -1,0 +1,11 @@
+pub mod Steps
+pub mod Merging
+pub mod Turns
+pub mod Orders
+pub mod Division
+pub mod Pivoting
+pub mod Invariance
+pub mod Scanning
+pub mod Refuting
+pub mod Pointing
+pub mod Soundness

@@ -1,0 +1,133 @@
+// What a round finds: the slack that leaves and the variable that enters.
+
+ghost use Rattle.std.specs.Prelude.{◌≡◌, ◌+◌, ◌<◌, ◌^◌, length, pos};
+ghost use Rattle.chc_simplex.specs.Terms.{sums_from};
+ghost use Rattle.chc_simplex.specs.Rounds.{number_at, rest_at, line_above, is_above, first_above, is_suitable, entering, leaves_for, step_of, next_step};
+
+use crate::data::{Line, Step};
+use crate::lines::terms_at;
+use chc_nums::{add_product, product};
+
+/// An entry of a list of numbers, 0 past its end.
+pub fn number_at(numbers: &[i128], at: usize) -> i128
+    ensures { result ≡ number_at numbers.now at }
+{
+    match numbers.get(at) {
+        Some(x) => *x,
+        None => 0,
+    }
+}
+
+/// The value at which a nonbasic variable rests: 0 for each of the first ones, and a slack's bound for the others.
+pub fn rest_at(variables: usize, bounds: &[i128], variable: usize) -> i128
+    ensures { result ≡ rest_at variables bounds.now variable }
+{
+    if variable < variables {
+        0
+    } else {
+        number_at(bounds, variable - variables)
+    }
+}
+
+/// The sum of a line's terms where the nonbasic variables rest, or none where a number leaves 128 bits.
+pub fn value_of(variables: usize, bounds: &[i128], terms: &[(usize, i128)]) -> Option<i128>
+    ensures { result ≡ sums_from (pos 0) terms.now (rest_at variables bounds.now) }
+{
+    let mut so_far = 0;
+    let mut rest = terms;
+    while let [(v, a), more @ ..] = rest {
+        so_far = add_product(so_far, *a, rest_at(variables, bounds, *v))?;
+        rest = more;
+    }
+    Some(so_far)
+}
+
+fn line_above(variables: usize, bounds: &[i128], bound: i128, line: &Line) -> Option<bool>
+    ensures { result ≡ line_above variables bounds.now bound line.now }
+{
+    let value = value_of(variables, bounds, line.terms.as_slice())?;
+    let most = product(line.denominator, bound)?;
+    Some(most < value)
+}
+
+fn is_above(variables: usize, bounds: &[i128], variable: usize, line: &Option<Line>) -> Option<bool>
+    ensures { result ≡ is_above variables bounds.now variable line.now }
+{
+    match line {
+        None => Some(false),
+        Some(line) => {
+            if variable < variables {
+                return Some(false);
+            }
+            line_above(
+                variables,
+                bounds,
+                rest_at(variables, bounds, variable),
+                line,
+            )
+        }
+    }
+}
+
+// The first basic slack above its bound.
+fn first_above(variables: usize, bounds: &[i128], tableau: &[Option<Line>]) -> Option<Option<usize>>
+    ensures { result ≡ first_above variables bounds.now 0 tableau.now }
+{
+    let mut variable = 0;
+    let mut rest = tableau;
+    while let [line, more @ ..] = rest {
+        if is_above(variables, bounds, variable, line)? {
+            return Some(Some(variable));
+        }
+        variable += 1;
+        rest = more;
+    }
+    Some(None)
+}
+
+fn is_suitable(variables: usize, variable: usize, a: i128) -> bool
+    ensures { result ≡ is_suitable variables (variable, a) }
+{
+    (variable < variables && a != 0) || a > 0
+}
+
+// The first suitable variable of a line.
+fn entering(variables: usize, terms: &[(usize, i128)]) -> Option<usize>
+    ensures { result ≡ entering variables terms.now }
+{
+    let mut rest = terms;
+    while let [(v, a), more @ ..] = rest {
+        if is_suitable(variables, *v, *a) {
+            return Some(*v);
+        }
+        rest = more;
+    }
+    None
+}
+
+fn leaves_for(leaving: usize, entering: Option<usize>) -> Step
+    ensures { result ≡ leaves_for leaving entering }
+{
+    match entering {
+        None => Step::Stuck(leaving),
+        Some(entering) => Step::Pivot(leaving, entering),
+    }
+}
+
+fn step_of(variables: usize, tableau: &[Option<Line>], leaving: Option<usize>) -> Step
+    ensures { result ≡ step_of variables tableau.now leaving }
+{
+    match leaving {
+        None => Step::AllHold,
+        Some(leaving) => leaves_for(leaving, entering(variables, terms_at(tableau, leaving))),
+    }
+}
+
+/// What a round finds, or none where a number leaves 128 bits.
+#[tactic(auto, unfolding(crate::specs::Rounds::next_step))]
+pub fn next_step(variables: usize, bounds: &[i128], tableau: &[Option<Line>]) -> Option<Step>
+    ensures { result ≡ next_step variables bounds.now tableau.now }
+{
+    let leaving = first_above(variables, bounds, tableau)?;
+    Some(step_of(variables, tableau, leaving))
+}
