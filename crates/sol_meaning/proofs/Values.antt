@@ -1,0 +1,38 @@
+-- The value of each kind of expression.
+use Rattle.std.proofs.Common.{◌≡◌, ◌∙◌, sym, ap, ℕ, true}
+use lib.IntN.{ℤ}
+use Rattle.chc_nums.specs.declared.Ty.{Ty}
+use Rattle.chc_nums.specs.declared.Op.{Op}
+use Rattle.chc_nums.specs.Types.{judged}
+use Rattle.sol_core.specs.declared.Cmp.{Cmp}
+use Rattle.sol_core.specs.declared.Marks.{Marks}
+use Rattle.sol_core.specs.declared.Expr.{Expr, Num, Scalar, Arith, Compare, Cast}
+use Rattle.sol_core.specs.declared.Expr.TheVariants.{rolls-Num, rolls-Scalar, rolls-Arith, rolls-Compare, rolls-Cast}
+use Rattle.sol_core.specs.declared.Expr.TheOpen.{Expr-F}
+use Rattle.sol_core.specs.declared.Expr.TheFolds.{fold-Expr, fold-roll-Expr}
+use Rattle.sol_meaning.specs.declared.world.World.{World}
+use Rattle.sol_meaning.specs.declared.world.Got.TheVariants as got
+use Rattle.sol_meaning.specs.Eval.{Valued, eval, value_step, then_value, number_at, arithmetic, compared, truth, wrapped}
+
+pub eval-Num : (n : ℤ) (t : Ty) (w : World) → eval (Num n t) w ≡ (got.Value n, w)
+unfolding eval value_step
+eval-Num n t w = ap (λ (z : Expr). fold-Expr Valued value_step z w) (sym (rolls-Num n t)) ∙ ap (λ (f : Valued). f w) (fold-roll-Expr Valued value_step (Expr-F.Num n t))
+
+pub eval-Scalar : (i : ℕ) (w : World) → eval (Scalar i) w ≡ (got.Value (number_at w.state.scalars i), w)
+unfolding eval value_step
+eval-Scalar i w = ap (λ (z : Expr). fold-Expr Valued value_step z w) (sym (rolls-Scalar i)) ∙ ap (λ (f : Valued). f w) (fold-roll-Expr Valued value_step (Expr-F.Scalar i))
+
+-- a checked operation
+pub eval-Arith : (o : Op) (t : Ty) (a b : Expr) (m : Marks) (w : World) → eval (Arith o t true a b m) w ≡ then_value (eval a w) (λ x v. then_value (eval b v) (λ y u. arithmetic (judged o t x y) m u))
+unfolding eval value_step
+eval-Arith o t a b m w = ap (λ (z : Expr). fold-Expr Valued value_step z w) (sym (rolls-Arith o t true a b m)) ∙ ap (λ (f : Valued). f w) (fold-roll-Expr Valued value_step (Expr-F.Arith o t true a b m))
+
+pub eval-Compare : (c : Cmp) (a : Expr) (b : Expr) (w : World) → eval (Compare c a b) w ≡ then_value (eval a w) (λ x v. then_value (eval b v) (λ y u. (got.Value (truth (compared c x y)), u)))
+unfolding eval value_step
+eval-Compare c a b w = ap (λ (z : Expr). fold-Expr Valued value_step z w) (sym (rolls-Compare c a b)) ∙ ap (λ (f : Valued). f w) (fold-roll-Expr Valued value_step (Expr-F.Compare c a b))
+
+pub eval-Cast : (s : Ty) (t : Ty) (a : Expr) (w : World) → eval (Cast s t a) w ≡ then_value (eval a w) (λ x v. (got.Value (wrapped t x), v))
+unfolding eval value_step
+eval-Cast s t a w = ap (λ (z : Expr). fold-Expr Valued value_step z w) (sym (rolls-Cast s t a)) ∙ ap (λ (f : Valued). f w) (fold-roll-Expr Valued value_step (Expr-F.Cast s t a))
+
+pub ruleset values = (eval-Num, eval-Scalar, eval-Arith, eval-Compare, eval-Cast)

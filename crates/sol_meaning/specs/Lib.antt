@@ -1,0 +1,4 @@
+pub mod Eval
+pub mod Exec
+pub mod Fits
+pub mod Run
