@@ -1,0 +1,12 @@
+pub mod Numbers
+pub mod Runs
+pub mod Marks
+pub mod Scans
+pub mod Symbols
+pub mod Many
+pub mod Places
+pub mod Names
+pub mod Lexed
+pub mod Fitting
+pub mod Parsed
+pub mod Sources

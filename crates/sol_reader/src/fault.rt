@@ -1,0 +1,23 @@
+// Why nothing was read.
+
+use chc_nums::NoMemory;
+
+/// Why no contract was read.
+#[derive(Clone, Copy, Debug, PartialEq, Eq)]
+pub enum ReadFault {
+    /// The text is not of the language.
+    NotBuilt,
+    /// Memory was wanted and not given.
+    NoMemory,
+}
+
+impl From<NoMemory> for ReadFault {
+    ghost use Rattle.std.specs.Prelude.{◌≡◌};
+    ghost use Rattle.sol_reader.specs.declared.fault.ReadFault.TheVariants as fault;
+
+    ghost from_gives = { λ _ e. e ≡ fault.NoMemory };
+
+    fn from(_e: NoMemory) -> ReadFault {
+        ReadFault::NoMemory
+    }
+}
