@@ -1,0 +1,4 @@
+pub mod Formed
+pub mod PathRows
+pub mod Points
+pub mod Sizes
