@@ -1,0 +1,50 @@
+-- What some bytes give is found of the file that holds them.
+use Rattle.std.proofs.Common.{◌≡◌, ◌⊎◌, inl, inr, ◌≤◌, ◌<◌, ℕ, List, [], ◌∷◌, refl, subst, sym, Option, Some, None, Result, Ok, Err, IfOk, length, IfSome, arith}
+use Rattle.chc_nums.specs.declared.NoMemory.{NoMemory}
+use Rattle.sol_driver.specs.declared.report.Report.{Report}
+use Rattle.sol_driver.specs.declared.report.Verdict.{Verdict}
+use Rattle.sol_driver.specs.declared.report.Verdict.TheVariants as verdict
+use Rattle.sol_driver.specs.declared.report.Status.{Status}
+use Rattle.sol_driver.specs.declared.report.Status.TheVariants as status
+use Rattle.sol_driver.specs.declared.find.Finding.{Finding}
+use Rattle.sol_driver.specs.declared.find.Finding.TheVariants as finding
+use Rattle.sol_driver.specs.Stands.{Stands}
+use Rattle.sol_driver.specs.Ends.{Asked, Names, WasRead, Found, Reported, NotBuilt}
+use Rattle.sol_driver.specs.Texts.{status_of, text_of}
+use Rattle.sol_driver.specs.Findings.{IsFinding, IsJudged}
+
+-- the status of verdicts is one of two
+two-statuses : (vs : List (ℕ × Verdict)) → (status_of vs ≡ status.Good) ⊎ (status_of vs ≡ status.Unknown)
+two-statuses [] = inl refl
+two-statuses ((t, verdict.Safe ms) ∷ vs) = two-statuses vs
+two-statuses ((t, verdict.Unknown o) ∷ vs) = inr refl
+
+found-report : (a : Asked) (bytes : List ℕ) (r : Report) → WasRead a bytes → Stands bytes r → Found a (status_of r.verdicts) (Some r) (text_of r)
+found-report a bytes r w h =
+    elim (two-statuses r.verdicts) [
+      | inl e ↦ subst (λ (s : Status). Found a s (Some r) (text_of r)) (sym e) (record { bytes = bytes; read = w; stands = h; status = e }, refl)
+      | inr e ↦ subst (λ (s : Status). Found a s (Some r) (text_of r)) (sym e) (record { bytes = bytes; read = w; stands = h; status = e }, refl)
+    ]
+
+judged-found : (a : Asked) (bytes : List ℕ) (f : Finding) → WasRead a bytes → IsJudged bytes f → IsFinding a f
+judged-found a bytes (finding.Checked r) w h = found-report a bytes r w h
+judged-found a bytes (finding.Line status.Source) w h = (record { bytes = bytes; read = w; foreign = h }, refl)
+judged-found a bytes (finding.Line status.Good) w h = absurd h
+judged-found a bytes (finding.Line status.Unknown) w h = absurd h
+judged-found a bytes (finding.Line status.Words) w h = absurd h
+judged-found a bytes (finding.Line status.ReadFault) w h = absurd h
+judged-found a bytes (finding.Line status.WriteFault) w h = absurd h
+judged-found a bytes (finding.Line status.NoMemory) w h = absurd h
+judged-found a bytes (finding.Line status.TooLong) w h = absurd h
+
+-- what a shelf tells of the bytes that it gave
+same-held : (held : Option (List ℕ)) (bytes : List ℕ) → IfSome held (λ those. (bytes ≡ those) × (length those ≤ 262144)) → IfSome held (λ those. those ≡ bytes)
+same-held None bytes h = tt
+same-held (Some those) bytes h = sym h.0
+
+pub read-found : (a : Asked) (name bytes : List ℕ) (f : Finding) → Names a name → IfSome (a.holds name) (λ those. (bytes ≡ those) × (length those ≤ 262144)) → length bytes ≤ 262144 → IsJudged bytes f → IsFinding a f
+read-found a name bytes f n h l j = judged-found a bytes f (record { name = name; named = n; held = same-held (a.holds name) bytes h; short = l }) j
+
+pub read-found-ok : (a : Asked) (name bytes : List ℕ) (r : Result Finding NoMemory) → Names a name → IfSome (a.holds name) (λ those. (bytes ≡ those) × (length those ≤ 262144)) → length bytes ≤ 262144 → IfOk r (λ f. IsJudged bytes f) → IfOk r (λ f. IsFinding a f)
+read-found-ok a name bytes (Ok f) n h l j = read-found a name bytes f n h l j
+read-found-ok a name bytes (Err e) n h l j = tt

@@ -1,0 +1,32 @@
+-- What was found and told ends as it should.
+use Rattle.std.proofs.Common.{ℕ, List, Option, Some, None}
+use Rattle.sol_driver.specs.declared.report.Report.{Report}
+use Rattle.sol_driver.specs.declared.report.Status.{Status}
+use Rattle.sol_driver.specs.declared.report.Status.TheVariants as status
+use Rattle.sol_driver.specs.declared.report.Outcome.{Outcome}
+use Rattle.sol_driver.specs.declared.find.Finding.{Finding}
+use Rattle.sol_driver.specs.declared.find.Finding.TheVariants as finding
+use Rattle.sol_driver.specs.Ends.{Asked, Told, Found, Ends}
+use Rattle.sol_driver.specs.Findings.{IsFinding}
+use Rattle.sol_driver.specs.Outcomes.{TellsText, whole, part, without_memory}
+use Rattle.sol_driver.specs.Texts.{text_of, status_of, status_line}
+
+found-ends : (a : Asked) (t : Told) (s : Status) (r : Option Report) (text : List ℕ) (o : Outcome) → Found a s r text → TellsText s r text t o → Ends a t o
+found-ends a t status.Good r text _ f (whole w) = record { text = text; found = f; written = w }
+found-ends a t status.Unknown r text _ f (whole w) = record { text = text; found = f; written = w }
+found-ends a t status.Source r text _ f (whole w) = record { text = text; found = f; written = w }
+found-ends a t status.Words r text _ f (whole w) = record { text = text; found = f; written = w }
+found-ends a t status.ReadFault r text _ f (whole w) = record { text = text; found = f; written = w }
+found-ends a t status.TooLong r text _ f (whole w) = record { text = text; found = f; written = w }
+found-ends a t status.WriteFault r text _ f (whole w) = absurd f
+found-ends a t status.NoMemory r text _ f (whole w) = tt
+found-ends a t s r text _ f (part rose w) = record { status = s; text = text; found = f; written = w; rose = rose }
+found-ends a t s r text _ f without_memory = tt
+
+pub line-ends : (a : Asked) (t : Told) (s : Status) (o : Outcome) → IsFinding a (finding.Line s) → TellsText s None (status_line s) t o → Ends a t o
+line-ends a t s o f w = found-ends a t s None (status_line s) o f w
+
+pub report-ends : (a : Asked) (t : Told) (r : Report) (o : Outcome) → IsFinding a (finding.Checked r) → TellsText (status_of r.verdicts) (Some r) (text_of r) t o → Ends a t o
+report-ends a t r o f w = found-ends a t (status_of r.verdicts) (Some r) (text_of r) o f w
+
+pub ruleset outcomes = (line-ends, report-ends, without_memory, whole, part)

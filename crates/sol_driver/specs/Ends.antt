@@ -1,0 +1,113 @@
+-- How a command ends: the clause of the top calls.
+use Rattle.std.specs.Prelude.{ℕ, ◌≡◌, ◌<◌, ◌≤◌, List, length, Option, Some, None, IfSome}
+use Rattle.std.specs.List.{concat}
+use Rattle.std.specs.declared.string.String.{String}
+use Rattle.std.specs.declared.alloc.Global.{Global}
+use Rattle.sol_outside.specs.Causes.{Rose, Appended, AppendedPart}
+use Rattle.sol_first.specs.declared.Contract.{Contract}
+use Rattle.sol_reader.specs.Language.{IsSource}
+use Rattle.sol_driver.specs.declared.report.Report.{Report}
+use Rattle.sol_driver.specs.declared.report.Status.{Status}
+use Rattle.sol_driver.specs.declared.report.Status.TheVariants as status
+use Rattle.sol_driver.specs.declared.report.Outcome.{Outcome}
+use Rattle.sol_driver.specs.Command.{command}
+use Rattle.sol_driver.specs.Stands.{Stands}
+use Rattle.sol_driver.specs.Texts.{text_of, status_of, status_line}
+
+-- what was asked: the words; the bytes that the shelf holds under a name, where it tells them; and its count of faults,
+-- before and after
+pub record Asked : Type 0 where
+  pub words : List (String Global)
+  pub holds : List ℕ → Option (List ℕ)
+  pub faults_before : ℕ
+  pub faults_after : ℕ
+
+-- what was told: what was written, before and after, where the sink tells it; and its count of faults, before and after
+pub record Told : Type 0 where
+  pub written_before : Option (List ℕ)
+  pub written_after : Option (List ℕ)
+  pub faults_before : ℕ
+  pub faults_after : ℕ
+
+-- the words name a file
+abbrev pub Names : Asked → List ℕ → Type 0
+Names a name = command a.words ≡ Some name
+
+-- the bytes are those of the file that the words name, where the shelf tells them; they are at most 262,144
+pub record WasRead (a : Asked) (bytes : List ℕ) : Type 0 where
+  pub name : List ℕ
+  pub named : Names a name
+  pub held : IfSome (a.holds name) (λ those. those ≡ bytes)
+  pub short : length bytes ≤ 262144
+
+-- the file was read, its text is of the language, and this is a right report of it with this status
+pub record Reported (a : Asked) (s : Status) (r : Report) : Type 0 where
+  pub bytes : List ℕ
+  pub read : WasRead a bytes
+  pub stands : Stands bytes r
+  pub status : status_of r.verdicts ≡ s
+
+-- the file was read and isn't of the language
+pub record NotBuilt (a : Asked) : Type 0 where
+  pub bytes : List ℕ
+  pub read : WasRead a bytes
+  pub foreign : (c : Contract) → IsSource bytes c → ⊥
+
+-- the words name a file, and the shelf's count of faults rose
+pub record ReadFailed (a : Asked) : Type 0 where
+  pub name : List ℕ
+  pub named : Names a name
+  pub rose : Rose a.faults_before a.faults_after
+
+-- the words name a file that holds more than 262,144 bytes
+pub record TooLong (a : Asked) : Type 0 where
+  pub name : List ℕ
+  pub named : Names a name
+  pub long : IfSome (a.holds name) (λ those. 262144 < length those)
+
+-- what was found before anything was written: a status, its report, if it has one, and the text of both
+abbrev pub Found : Asked → Status → Option Report → List ℕ → Type 0
+Found a status.Good (Some r) text = Reported a status.Good r × (text ≡ text_of r)
+Found a status.Good None text = ⊥
+Found a status.Unknown (Some r) text = Reported a status.Unknown r × (text ≡ text_of r)
+Found a status.Unknown None text = ⊥
+Found a status.Source None text = NotBuilt a × (text ≡ status_line status.Source)
+Found a status.Source (Some r) text = ⊥
+Found a status.Words None text = (command a.words ≡ None) × (text ≡ status_line status.Words)
+Found a status.Words (Some r) text = ⊥
+Found a status.ReadFault None text = ReadFailed a × (text ≡ status_line status.ReadFault)
+Found a status.ReadFault (Some r) text = ⊥
+Found a status.TooLong None text = TooLong a × (text ≡ status_line status.TooLong)
+Found a status.TooLong (Some r) text = ⊥
+Found a status.WriteFault r text = ⊥
+Found a status.NoMemory r text = ⊥
+
+-- what was found was written whole
+pub record ToldWhole (a : Asked) (t : Told) (s : Status) (r : Option Report) : Type 0 where
+  pub text : List ℕ
+  pub found : Found a s r text
+  pub written : Appended t.written_before t.written_after text
+
+-- a put of what was found failed: the sink's count of faults rose, and a prefix of the text was written
+pub record ToldPart (a : Asked) (t : Told) (r : Option Report) : Type 0 where
+  pub status : Status
+  pub text : List ℕ
+  pub found : Found a status r text
+  pub written : AppendedPart t.written_before t.written_after text
+  pub rose : Rose t.faults_before t.faults_after
+
+-- Each status but those of a failed put and of want of memory comes only by what was found, which was then written
+-- whole. The causes of any two of them exclude each other, so each comes exactly where its cause is, but that a failed
+-- put and want of memory may come in its place. Want of memory is free.
+abbrev pub EndsAs : Asked → Told → Status → Option Report → Type 0
+EndsAs a t status.Good r = ToldWhole a t status.Good r
+EndsAs a t status.Unknown r = ToldWhole a t status.Unknown r
+EndsAs a t status.Source r = ToldWhole a t status.Source r
+EndsAs a t status.Words r = ToldWhole a t status.Words r
+EndsAs a t status.ReadFault r = ToldWhole a t status.ReadFault r
+EndsAs a t status.TooLong r = ToldWhole a t status.TooLong r
+EndsAs a t status.WriteFault r = ToldPart a t r
+EndsAs a t status.NoMemory r = Unit {0}
+
+abbrev pub Ends : Asked → Told → Outcome → Type 0
+Ends a t o = EndsAs a t o.status o.report

@@ -1,0 +1,8 @@
+pub mod Command
+pub mod Verdicts
+pub mod Stands
+pub mod Texts
+pub mod Ends
+pub mod Told
+pub mod Findings
+pub mod Outcomes

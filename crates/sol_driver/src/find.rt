@@ -1,0 +1,59 @@
+// From the words to what there is to tell.
+
+ghost use Rattle.std.specs.Prelude.{◌≤◌, length, IfOk};
+ghost use Rattle.sol_driver.specs.Ends.{Asked};
+ghost use Rattle.sol_driver.specs.Findings.{IsFinding, IsJudged};
+
+use crate::check::{CheckFault, check};
+use crate::command::checked_file;
+use crate::report::{Report, Status};
+use chc_nums::NoMemory;
+use sol_outside::{Shelf, ShelfFault};
+use std::alloc::Global;
+
+// The most bytes of a file.
+const MOST: u32 = 262_144;
+
+/// What there is to tell: the one line of a status, or a report.
+#[derive(Drop)]
+pub enum Finding {
+    Line(Status),
+    Checked(Report),
+}
+
+// What there is to tell of the bytes that were read.
+fn find_in(alloc: Global, bytes: &[u8]) -> Result<Finding, NoMemory>
+    requires { length bytes.now ≤ 262144 }
+    ensures { IfOk result (λ f. IsJudged bytes.now f) }
+{
+    match check(alloc, bytes) {
+        Ok(report) => Ok(Finding::Checked(report)),
+        Err(CheckFault::NotBuilt) => Ok(Finding::Line(Status::Source)),
+        Err(CheckFault::NoMemory) => Err(NoMemory),
+    }
+}
+
+/// What there is to tell of the file that the words name.
+pub fn find<F: Shelf>(alloc: Global, words: &[String], shelf: &mut F) -> Result<Finding, NoMemory>
+    ensures { IfOk result (λ f. IsFinding (record {
+      words = words.now;
+      holds = F.holds shelf.old;
+      faults_before = F.faults shelf.old;
+      faults_after = F.faults shelf.new;
+    }) f) }
+{
+    let Some(name) = checked_file(words) else {
+        return Ok(Finding::Line(Status::Words));
+    };
+    match shelf.read(alloc, name, MOST) {
+        Ok(bytes) => {
+            if bytes.len() > MOST as usize {
+                return Ok(Finding::Line(Status::TooLong));
+            }
+            find_in(alloc, bytes.as_slice())
+        }
+        Err(ShelfFault::Failed) => Ok(Finding::Line(Status::ReadFault)),
+        Err(ShelfFault::TooLong { .. }) => Ok(Finding::Line(Status::TooLong)),
+        Err(ShelfFault::NoMemory) => Err(NoMemory),
+    }
+}

@@ -1,0 +1,144 @@
+// The top calls.
+
+ghost use Rattle.std.specs.Prelude.{◌≡◌, Some, None};
+ghost use Rattle.sol_driver.specs.Ends.{Asked, Told, Ends};
+ghost use Rattle.sol_driver.specs.Outcomes.{TellsText};
+ghost use Rattle.sol_driver.specs.Texts.{code_of, status_line, status_of, text_of};
+
+use crate::find::{Finding, find};
+use crate::report::{Outcome, Report, Status};
+use crate::tell::tell;
+use crate::text::{lines, status, status_line};
+use sol_outside::{Gate, Shelf, Sink, SinkFault};
+use std::alloc::Global;
+use std::sync::Wait;
+use std::thread::Threads;
+
+/// The number that a process ends with.
+pub fn code(status: Status) -> u8
+    ensures { result ≡ code_of status }
+{
+    match status {
+        Status::Good => 0,
+        Status::Unknown => 2,
+        Status::Source => 3,
+        Status::Words => 4,
+        Status::ReadFault => 5,
+        Status::WriteFault => 6,
+        Status::NoMemory => 7,
+        Status::TooLong => 8,
+    }
+}
+
+// Want of memory is told once, as well as it can be; a fault of that changes nothing.
+fn without_memory<K: Sink>(out: &mut K) -> Outcome
+    ensures { result ≡ record { status = Status.NoMemory; report = None } }
+{
+    let _ = out.put(status_line(Status::NoMemory));
+    Outcome {
+        status: Status::NoMemory,
+        report: None,
+    }
+}
+
+#[tactic(auto, using(crate::proofs::Outcomes::outcomes))]
+// A status that has one line and no report.
+fn tell_line<K: Sink>(status: Status, out: &mut K) -> Outcome
+    ensures { TellsText status None (status_line status) (record {
+      written_before = K.written out.old;
+      written_after = K.written out.new;
+      faults_before = K.faults out.old;
+      faults_after = K.faults out.new;
+    }) result }
+{
+    match out.put(status_line(status)) {
+        Ok(()) => Outcome {
+            status,
+            report: None,
+        },
+        Err(SinkFault::Failed) => Outcome {
+            status: Status::WriteFault,
+            report: None,
+        },
+        Err(SinkFault::NoMemory) => without_memory(out),
+    }
+}
+
+#[tactic(auto, using(crate::proofs::Outcomes::outcomes))]
+// A report, and the status that its verdicts give.
+fn tell_report<K: Sink>(alloc: Global, report: Report, out: &mut K) -> Outcome
+    ensures { TellsText (status_of report.verdicts) (Some report) (text_of report) (record {
+      written_before = K.written out.old;
+      written_after = K.written out.new;
+      faults_before = K.faults out.old;
+      faults_after = K.faults out.new;
+    }) result }
+{
+    let Ok(lines) = lines(alloc, &report) else {
+        return without_memory(out);
+    };
+    let status = status(report.verdicts.as_slice());
+    match tell(lines.as_slice(), out) {
+        Ok(()) => Outcome {
+            status,
+            report: Some(report),
+        },
+        Err(SinkFault::Failed) => Outcome {
+            status: Status::WriteFault,
+            report: Some(report),
+        },
+        Err(SinkFault::NoMemory) => without_memory(out),
+    }
+}
+
+/// Does what the words ask, and waits for nobody: `check FILE` reads the file and prints its report, a line for each
+/// target and one that counts them; any other words are refused.
+#[tactic(auto, using(crate::proofs::Outcomes::outcomes))]
+pub fn run_alone<F: Shelf, K: Sink>(
+    alloc: Global,
+    words: &[String],
+    shelf: &mut F,
+    out: &mut K,
+) -> Outcome
+    ensures { Ends (record {
+      words = words.now;
+      holds = F.holds shelf.old;
+      faults_before = F.faults shelf.old;
+      faults_after = F.faults shelf.new;
+    }) (record {
+      written_before = K.written out.old;
+      written_after = K.written out.new;
+      faults_before = K.faults out.old;
+      faults_after = K.faults out.new;
+    }) result }
+{
+    match find(alloc, words, shelf) {
+        Ok(Finding::Line(status)) => tell_line(status, out),
+        Ok(Finding::Checked(report)) => tell_report(alloc, report, out),
+        Err(_) => without_memory(out),
+    }
+}
+
+/// Does what the words ask, as `run_alone`. It has leave to start threads and to wait; no command needs it yet.
+pub fn run_main<R: Threads + Wait + Sync, F: Shelf, K: Sink, G: Gate + Sync>(
+    _rt: &R,
+    alloc: Global,
+    words: &[String],
+    shelf: &mut F,
+    out: &mut K,
+    _gate: &G,
+) -> Outcome
+    ensures { Ends (record {
+      words = words.now;
+      holds = F.holds shelf.old;
+      faults_before = F.faults shelf.old;
+      faults_after = F.faults shelf.new;
+    }) (record {
+      written_before = K.written out.old;
+      written_after = K.written out.new;
+      faults_before = K.faults out.old;
+      faults_after = K.faults out.new;
+    }) result }
+{
+    run_alone(alloc, words, shelf, out)
+}
