@@ -1,0 +1,16 @@
+pub mod Comments
+pub mod Cuts
+pub mod Digits
+pub mod Endings
+pub mod Laws
+pub mod Limits
+pub mod Longest
+pub mod Numerals
+pub mod Punctuators
+pub mod Quotes
+pub mod Runs
+pub mod Says
+pub mod Spellings
+pub mod Steps
+pub mod Told
+pub mod Words

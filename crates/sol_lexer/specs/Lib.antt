@@ -1,0 +1,5 @@
+pub mod Bytes
+pub mod Reading
+pub mod Steps
+pub mod Tables
+pub mod Tokens
