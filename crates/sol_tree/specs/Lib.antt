@@ -1,1 +1,4 @@
+pub mod Places
+pub mod Precedence
 pub mod Refused
+pub mod Words
