@@ -1,0 +1,14 @@
+pub mod Compound
+pub mod First
+pub mod Heads
+pub mod Heights
+pub mod Laws
+pub mod Loops
+pub mod Open
+pub mod Sound
+pub mod SoundLeaves
+pub mod SoundStmts
+pub mod WholeLeaves
+pub mod WholeLists
+pub mod WholeParts
+pub mod WholeStmts
