@@ -1,0 +1,13 @@
+pub mod Heads
+pub mod Laws
+pub mod SoundFiles
+pub mod SoundLists
+pub mod SoundMembers
+pub mod SoundParts
+pub mod Statements
+pub mod Turns
+pub mod WholeFiles
+pub mod WholeLists
+pub mod WholeMarks
+pub mod WholeMembers
+pub mod WholeParts

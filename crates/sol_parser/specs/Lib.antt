@@ -1,0 +1,4 @@
+pub mod Grammar
+pub mod Heights
+pub mod Reading
+pub mod Trees

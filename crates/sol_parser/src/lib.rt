@@ -1,0 +1,14 @@
+//! The tree of a list of tokens, as the grammar in `specs/Grammar.antt` says: files, contracts and their members.
+//! `parse` gives the tree, or a place where there is none.
+#![tactic(auto)]
+
+mod lists;
+mod marks;
+mod members;
+mod parser;
+mod parts;
+#[cfg(test)]
+mod tests;
+mod units;
+
+pub use parser::{one_tree, parse};
