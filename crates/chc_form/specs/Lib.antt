@@ -1,2 +1,9 @@
+pub mod Constraints
+pub mod Derivations
+pub mod Lemmas
 pub mod Linear
 pub mod Multipliers
+pub mod Solving
+pub mod Sums
+pub mod Valuations
+pub mod WellMade

@@ -1,5 +1,5 @@
 -- What linear inequalities say, over whole numbers and over fractions. Each sum stands for "at most 0".
-use Rattle.std.specs.Prelude.{ℕ, ◌<◌, ◌≡◌, ◌≢◌, List, [], ◌∷◌, map, pos, ◌+ℤ◌, ◌*ℤ◌, ◌≤ℤ◌}
+use Rattle.std.specs.Prelude.{ℕ, ◌<◌, ◌≢◌, List, [], ◌∷◌, map, pos, ◌+ℤ◌, ◌*ℤ◌, ◌≤ℤ◌}
 use lib.IntN.{ℤ}
 use Rattle.chc_form.specs.declared.linear.Lin.{Lin}
 use Rattle.chc_form.specs.declared.linear.Row.{Row}
