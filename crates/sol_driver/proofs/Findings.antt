@@ -9,7 +9,7 @@ use Rattle.sol_driver.specs.declared.report.Status.TheVariants as status
 use Rattle.sol_driver.specs.declared.find.Finding.{Finding}
 use Rattle.sol_driver.specs.declared.find.Finding.TheVariants as finding
 use Rattle.sol_driver.specs.Stands.{Stands}
-use Rattle.sol_driver.specs.Ends.{Asked, Names, WasRead, Found, Reported, NotBuilt}
+use Rattle.sol_driver.specs.Ends.{Asked, Names, WasRead, Found, Reported}
 use Rattle.sol_driver.specs.Texts.{status_of, text_of}
 use Rattle.sol_driver.specs.Findings.{IsFinding, IsJudged}
 
@@ -28,14 +28,8 @@ found-report a bytes r w h =
 
 judged-found : (a : Asked) (bytes : List ℕ) (f : Finding) → WasRead a bytes → IsJudged bytes f → IsFinding a f
 judged-found a bytes (finding.Checked r) w h = found-report a bytes r w h
-judged-found a bytes (finding.Line status.Source) w h = (record { bytes = bytes; read = w; foreign = h }, refl)
-judged-found a bytes (finding.Line status.Good) w h = absurd h
-judged-found a bytes (finding.Line status.Unknown) w h = absurd h
-judged-found a bytes (finding.Line status.Words) w h = absurd h
-judged-found a bytes (finding.Line status.ReadFault) w h = absurd h
-judged-found a bytes (finding.Line status.WriteFault) w h = absurd h
-judged-found a bytes (finding.Line status.NoMemory) w h = absurd h
-judged-found a bytes (finding.Line status.TooLong) w h = absurd h
+judged-found a bytes (finding.Refused line) w h = record { bytes = bytes; read = w; refused = h }
+judged-found a bytes (finding.Line s) w h = absurd h
 
 -- what a shelf tells of the bytes that it gave
 same-held : (held : Option (List ℕ)) (bytes : List ℕ) → IfSome held (λ those. (bytes ≡ those) × (length those ≤ 262144)) → IfSome held (λ those. those ≡ bytes)

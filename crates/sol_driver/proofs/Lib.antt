@@ -1,6 +1,6 @@
 pub mod Numbers
 pub mod Writing
-pub mod Typing
+pub mod Sources
 pub mod Reports
 pub mod Findings
 pub mod Outcomes

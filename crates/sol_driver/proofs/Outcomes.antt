@@ -26,7 +26,10 @@ found-ends a t s r text _ f without_memory = tt
 pub line-ends : (a : Asked) (t : Told) (s : Status) (o : Outcome) → IsFinding a (finding.Line s) → TellsText s None (status_line s) t o → Ends a t o
 line-ends a t s o f w = found-ends a t s None (status_line s) o f w
 
+pub refused-ends : (a : Asked) (t : Told) (line : List ℕ) (o : Outcome) → IsFinding a (finding.Refused line) → TellsText status.Source None line t o → Ends a t o
+refused-ends a t line o f w = found-ends a t status.Source None line o f w
+
 pub report-ends : (a : Asked) (t : Told) (r : Report) (o : Outcome) → IsFinding a (finding.Checked r) → TellsText (status_of r.verdicts) (Some r) (text_of r) t o → Ends a t o
 report-ends a t r o f w = found-ends a t (status_of r.verdicts) (Some r) (text_of r) o f w
 
-pub ruleset outcomes = (line-ends, report-ends, without_memory, whole, part)
+pub ruleset outcomes = (line-ends, refused-ends, report-ends, without_memory, whole, part)

@@ -26,11 +26,12 @@ use Rattle.sol_paths.specs.Points.{HasPoint}
 use Rattle.sol_paths.proofs.Bodies.{paths-count}
 use Rattle.sol_paths.proofs.Forms.{entry-formed, after-formed, target-ascends}
 use Rattle.sol_paths.proofs.Runs.{violated-has_point}
-use Rattle.sol_reader.specs.Language.{IsSource}
+use Rattle.sol_tree.specs.declared.file.File.{File}
+use Rattle.sol_reader.specs.Language.{IsFirst}
+use Rattle.sol_driver.specs.Refusals.{HasTree}
 use Rattle.sol_driver.specs.Stands.{Stands, VerdictStands, VerdictsStand}
 use Rattle.sol_driver.specs.Verdicts.{verdict_of, verdict_of_run, numbered, verdicts_of, report_of}
 use Rattle.sol_driver.proofs.Numbers.{length-numbered}
-use Rattle.sol_driver.proofs.Typing.{source-typed}
 
 -- ---- the rows of every path are in order
 
@@ -88,13 +89,15 @@ functions-count vars [] = refl
 functions-count vars (f ∷ fs) =
     omega (arith, length-append (paths_of vars f.steps (entry vars)) (paths_of_functions vars fs), length-append (sites_of_steps f.steps) (sites_of fs), paths-count vars f.steps (entry vars), functions-count vars fs)
 
-pub report-stands : (text : List ℕ) (c : Contract) → IsSource text c → Stands text (report_of c)
-report-stands text c s =
-    let typed : IsTyped c = source-typed text c s in
+pub report-stands : (text : List ℕ) (f : File) (c : Contract) → HasTree text f → IsFirst text f c → Stands text (report_of c)
+report-stands text f c source first =
+    let typed : IsTyped c = first.good.typed in
     let same : (k : ℕ) → slice_get (path_rows c) (0 + k) ≡ slice_get (path_rows c) k = λ k. let e : 0 + k ≡ k = omega arith in rw e refl in
     record {
+      file = f;
+      source = source;
       contract = c;
-      source = s;
+      first = first;
       program = refl;
       verdicts = verdicts-stand c 0 (path_rows c) typed same (in_order-functions c.variables c.functions typed.steps);
       targets = length-numbered 0 (map verdict_of (path_rows c)) ∙ length-map (path_rows c) verdict_of ∙ functions-count c.variables c.functions;

@@ -4,13 +4,12 @@ use Rattle.std.specs.List.{concat}
 use Rattle.std.specs.declared.string.String.{String}
 use Rattle.std.specs.declared.alloc.Global.{Global}
 use Rattle.sol_outside.specs.Causes.{Rose, Appended, AppendedPart}
-use Rattle.sol_first.specs.declared.Contract.{Contract}
-use Rattle.sol_reader.specs.Language.{IsSource}
 use Rattle.sol_driver.specs.declared.report.Report.{Report}
 use Rattle.sol_driver.specs.declared.report.Status.{Status}
 use Rattle.sol_driver.specs.declared.report.Status.TheVariants as status
 use Rattle.sol_driver.specs.declared.report.Outcome.{Outcome}
 use Rattle.sol_driver.specs.Command.{command}
+use Rattle.sol_driver.specs.Refusals.{IsRefusedWith}
 use Rattle.sol_driver.specs.Stands.{Stands}
 use Rattle.sol_driver.specs.Texts.{text_of, status_of, status_line}
 
@@ -47,11 +46,11 @@ pub record Reported (a : Asked) (s : Status) (r : Report) : Type 0 where
   pub stands : Stands bytes r
   pub status : status_of r.verdicts ≡ s
 
--- the file was read and isn't of the language
-pub record NotBuilt (a : Asked) : Type 0 where
+-- the file was read, and its text is refused for a cause that this line tells
+pub record Refused (a : Asked) (line : List ℕ) : Type 0 where
   pub bytes : List ℕ
   pub read : WasRead a bytes
-  pub foreign : (c : Contract) → IsSource bytes c → ⊥
+  pub refused : IsRefusedWith bytes line
 
 -- the words name a file, and the shelf's count of faults rose
 pub record ReadFailed (a : Asked) : Type 0 where
@@ -71,7 +70,7 @@ Found a status.Good (Some r) text = Reported a status.Good r × (text ≡ text_o
 Found a status.Good None text = ⊥
 Found a status.Unknown (Some r) text = Reported a status.Unknown r × (text ≡ text_of r)
 Found a status.Unknown None text = ⊥
-Found a status.Source None text = NotBuilt a × (text ≡ status_line status.Source)
+Found a status.Source None text = Refused a text
 Found a status.Source (Some r) text = ⊥
 Found a status.Words None text = (command a.words ≡ None) × (text ≡ status_line status.Words)
 Found a status.Words (Some r) text = ⊥

@@ -1,7 +1,6 @@
 -- What is known before anything is written.
 use Rattle.std.specs.Prelude.{ℕ, List, Option, Some, None, Result, Ok, Err}
-use Rattle.sol_first.specs.declared.Contract.{Contract}
-use Rattle.sol_reader.specs.Language.{IsSource}
+use Rattle.sol_driver.specs.Refusals.{IsRefused, IsRefusedWith}
 use Rattle.sol_driver.specs.Stands.{Stands}
 use Rattle.sol_driver.specs.declared.report.Status.TheVariants as status
 use Rattle.sol_driver.specs.declared.report.Report.{Report}
@@ -12,25 +11,20 @@ use Rattle.sol_driver.specs.declared.find.Finding.TheVariants as finding
 use Rattle.sol_driver.specs.Ends.{Asked, Found}
 use Rattle.sol_driver.specs.Texts.{text_of, status_of, status_line}
 
--- a status that has one line, or a report, whose verdicts give the status
+-- a status that has one line, a refused source and its line, or a report, whose verdicts give the status
 abbrev pub IsFinding : Asked → Finding → Type 0
 IsFinding a (finding.Line s) = Found a s None (status_line s)
+IsFinding a (finding.Refused line) = Found a status.Source None line
 IsFinding a (finding.Checked r) = Found a (status_of r.verdicts) (Some r) (text_of r)
 
--- what a check of some bytes answers: a report that stands, or that they aren't of the language
+-- what a check of some bytes answers: a report that stands, or why they are refused
 abbrev pub Checks : List ℕ → Result Report CheckFault → Type 0
 Checks bytes (Ok r) = Stands bytes r
-Checks bytes (Err fault.NotBuilt) = (c : Contract) → IsSource bytes c → ⊥
+Checks bytes (Err (fault.Refused r)) = IsRefused bytes r
 Checks bytes (Err fault.NoMemory) = Unit {0}
 
--- what some bytes give: a report that stands, or that they aren't of the language
+-- what some bytes give: a report that stands, or the line of a cause for which they are refused
 abbrev pub IsJudged : List ℕ → Finding → Type 0
 IsJudged bytes (finding.Checked r) = Stands bytes r
-IsJudged bytes (finding.Line status.Source) = (c : Contract) → IsSource bytes c → ⊥
-IsJudged bytes (finding.Line status.Good) = ⊥
-IsJudged bytes (finding.Line status.Unknown) = ⊥
-IsJudged bytes (finding.Line status.Words) = ⊥
-IsJudged bytes (finding.Line status.ReadFault) = ⊥
-IsJudged bytes (finding.Line status.WriteFault) = ⊥
-IsJudged bytes (finding.Line status.NoMemory) = ⊥
-IsJudged bytes (finding.Line status.TooLong) = ⊥
+IsJudged bytes (finding.Refused line) = IsRefusedWith bytes line
+IsJudged bytes (finding.Line s) = ⊥

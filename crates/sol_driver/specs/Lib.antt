@@ -1,5 +1,6 @@
 pub mod Command
 pub mod Verdicts
+pub mod Refusals
 pub mod Stands
 pub mod Texts
 pub mod Ends

@@ -11,8 +11,10 @@ use Rattle.sol_meaning.specs.Run.{Violates}
 use Rattle.sol_meaning.specs.Fits.{Fits}
 use Rattle.sol_first.specs.declared.Contract.{Contract}
 use Rattle.sol_first.specs.Elaborated.{program_of}
-use Rattle.sol_reader.specs.Language.{IsSource}
+use Rattle.sol_tree.specs.declared.file.File.{File}
+use Rattle.sol_reader.specs.Language.{IsFirst}
 use Rattle.sol_paths.specs.PathRows.{path_rows}
+use Rattle.sol_driver.specs.Refusals.{HasTree}
 use Rattle.sol_driver.specs.declared.report.Why.{Why}
 use Rattle.sol_driver.specs.declared.report.Why.TheVariants as why
 use Rattle.sol_driver.specs.declared.report.Verdict.{Verdict}
@@ -39,10 +41,13 @@ VerdictsStand c t [] (v ∷ vs) = ⊥
 VerdictsStand c t (rows ∷ rest) [] = ⊥
 VerdictsStand c t (rows ∷ rest) (v ∷ vs) = (v.0 ≡ t) × VerdictStands c t rows v.1 × VerdictsStand c (suc t) rest vs
 
--- the text is of the first language, the program is its program, and there is one right verdict per target
+-- the text's tree is that of a contract of the first language, the program is its program, and there is one right
+-- verdict per target
 pub record Stands (text : List ℕ) (r : Report) : Type 0 where
+  pub file : File
+  pub source : HasTree text file
   pub contract : Contract
-  pub source : IsSource text contract
+  pub first : IsFirst text file contract
   pub program : r.program ≡ program_of contract
   pub verdicts : VerdictsStand contract 0 (path_rows contract) r.verdicts
   pub targets : length r.verdicts ≡ length r.program.sites

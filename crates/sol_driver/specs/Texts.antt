@@ -74,11 +74,11 @@ status_of [] = status.Good
 status_of ((t, verdict.Safe ms) ∷ vs) = status_of vs
 status_of ((t, verdict.Unknown o) ∷ vs) = status.Unknown
 
--- the one line of a status that has no report
+-- the one line of a status that has no report, but for a refused source, whose line tells the cause
 abbrev pub status_line : Status → List ℕ
 status_line status.Good = []
 status_line status.Unknown = []
-status_line status.Source = codes "refused not-built\n"
+status_line status.Source = []
 status_line status.Words = codes "words refused\n"
 status_line status.ReadFault = codes "read fault\n"
 status_line status.WriteFault = []

@@ -1,21 +1,28 @@
 // From the bytes of a file to its report.
 
 ghost use Rattle.std.specs.Prelude.{◌≡◌, ◌≤◌, length, IfOk};
+ghost use Rattle.sol_lexer.specs.Tokens.{Tokenizes};
 ghost use Rattle.sol_first.specs.Typed.{IsTyped};
 ghost use Rattle.sol_driver.specs.Findings.{Checks};
+ghost use Rattle.sol_driver.specs.Refusals.{HasTree};
 ghost use Rattle.sol_driver.specs.Verdicts.{report_of};
 
 use crate::judge::judge;
+use crate::refusal::Refusal;
 use crate::report::Report;
 use chc_nums::NoMemory;
 use sol_first::{Contract, program};
+use sol_lexer::{LexFault, lex};
+use sol_parse_expr::ParseFault;
+use sol_parser::parse;
 use sol_reader::{ReadFault, read};
+use sol_tree::{File, Token};
 use std::alloc::Global;
 
-/// Why a text has no report: it isn't of the language, or memory was wanting.
+/// Why a text has no report: it is refused, or memory was wanting.
 #[derive(Clone, Copy, Debug, PartialEq, Eq)]
 pub enum CheckFault {
-    NotBuilt,
+    Refused(Refusal),
     NoMemory,
 }
 
@@ -29,19 +36,46 @@ fn report(alloc: Global, contract: &Contract) -> Result<Report, NoMemory>
     Ok(Report { program, verdicts })
 }
 
-/// The report of a text.
+// The report of a text whose tree is this.
 #[tactic(auto, using(crate::proofs::Reports::reports))]
-pub fn check(alloc: Global, text: &[u8]) -> Result<Report, CheckFault>
-    requires { length text.now ≤ 262144 }
+fn check_tree(alloc: Global, text: &[u8], file: &File) -> Result<Report, CheckFault>
+    requires short { length text.now ≤ 262144 }
+    requires tree { HasTree text.now file.now }
     ensures { Checks text.now result }
 {
-    let contract = match read(alloc, text) {
+    let contract = match read(alloc, text, file) {
         Ok(contract) => contract,
-        Err(ReadFault::NotBuilt) => return Err(CheckFault::NotBuilt),
+        Err(ReadFault::NotBuilt) => return Err(CheckFault::Refused(Refusal::NotBuilt)),
         Err(ReadFault::NoMemory) => return Err(CheckFault::NoMemory),
     };
     match report(alloc, &contract) {
         Ok(report) => Ok(report),
         Err(_) => Err(CheckFault::NoMemory),
+    }
+}
+
+// The report of a text whose tokens are these.
+#[tactic(auto, using(crate::proofs::Sources::sources))]
+fn check_tokens(alloc: Global, text: &[u8], tokens: &[Token]) -> Result<Report, CheckFault>
+    requires short { length text.now ≤ 262144 }
+    requires tokens { Tokenizes text.now tokens.now }
+    ensures { Checks text.now result }
+{
+    match parse(alloc, tokens) {
+        Ok(file) => check_tree(alloc, text, &file),
+        Err(ParseFault::NoTree { at }) => Err(CheckFault::Refused(Refusal::NoTree { at })),
+        Err(ParseFault::NoMemory) => Err(CheckFault::NoMemory),
+    }
+}
+
+/// The report of a text.
+pub fn check(alloc: Global, text: &[u8]) -> Result<Report, CheckFault>
+    requires { length text.now ≤ 262144 }
+    ensures { Checks text.now result }
+{
+    match lex(alloc, text) {
+        Ok(tokens) => check_tokens(alloc, text, tokens.as_slice()),
+        Err(LexFault::NoMemory) => Err(CheckFault::NoMemory),
+        Err(fault) => Err(CheckFault::Refused(Refusal::Lexical(fault))),
     }
 }

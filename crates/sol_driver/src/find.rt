@@ -6,18 +6,20 @@ ghost use Rattle.sol_driver.specs.Findings.{IsFinding, IsJudged};
 
 use crate::check::{CheckFault, check};
 use crate::command::checked_file;
+use crate::refusal::refusal_line;
 use crate::report::{Report, Status};
-use chc_nums::NoMemory;
+use chc_nums::{List, NoMemory};
 use sol_outside::{Shelf, ShelfFault};
 use std::alloc::Global;
 
 // The most bytes of a file.
 const MOST: u32 = 262_144;
 
-/// What there is to tell: the one line of a status, or a report.
+/// What there is to tell: the one line of a status, the line of a refused text, or a report.
 #[derive(Drop)]
 pub enum Finding {
     Line(Status),
+    Refused(List<u8>),
     Checked(Report),
 }
 
@@ -28,7 +30,9 @@ fn find_in(alloc: Global, bytes: &[u8]) -> Result<Finding, NoMemory>
 {
     match check(alloc, bytes) {
         Ok(report) => Ok(Finding::Checked(report)),
-        Err(CheckFault::NotBuilt) => Ok(Finding::Line(Status::Source)),
+        Err(CheckFault::Refused(refusal)) => {
+            Ok(Finding::Refused(refusal_line(alloc, bytes, refusal)?))
+        }
         Err(CheckFault::NoMemory) => Err(NoMemory),
     }
 }

@@ -7,6 +7,7 @@ mod check;
 mod command;
 mod find;
 mod judge;
+mod refusal;
 mod report;
 mod tell;
 #[cfg(test)]

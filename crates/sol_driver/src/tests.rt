@@ -2,7 +2,9 @@
 
 mod faults;
 mod language;
+mod refusals;
 mod reports;
+mod trees;
 
 use crate::{Outcome, Status, run_alone, run_main};
 use chc_nums::NoMemory;

@@ -154,16 +154,15 @@ pub fn status(verdicts: &[(u32, Verdict)]) -> Status
     Status::Good
 }
 
-/// The one line of a status that has no report.
+/// The one line of a status that has no report. That of a refused source tells its cause, and isn't given here.
 pub fn status_line(status: Status) -> &'static [u8]
     ensures { result.now ≡ status_line status }
 {
     match status {
-        Status::Source => b"refused not-built\n",
         Status::Words => b"words refused\n",
         Status::ReadFault => b"read fault\n",
         Status::NoMemory => b"no memory\n",
         Status::TooLong => b"file too long\n",
-        Status::Good | Status::Unknown | Status::WriteFault => b"",
+        Status::Good | Status::Unknown | Status::Source | Status::WriteFault => b"",
     }
 }

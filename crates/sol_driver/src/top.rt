@@ -43,15 +43,15 @@ fn without_memory<K: Sink>(out: &mut K) -> Outcome
 
 #[tactic(auto, using(crate::proofs::Outcomes::outcomes))]
 // A status that has one line and no report.
-fn tell_line<K: Sink>(status: Status, out: &mut K) -> Outcome
-    ensures { TellsText status None (status_line status) (record {
+fn tell_line<K: Sink>(status: Status, line: &[u8], out: &mut K) -> Outcome
+    ensures { TellsText status None line.now (record {
       written_before = K.written out.old;
       written_after = K.written out.new;
       faults_before = K.faults out.old;
       faults_after = K.faults out.new;
     }) result }
 {
-    match out.put(status_line(status)) {
+    match out.put(line) {
         Ok(()) => Outcome {
             status,
             report: None,
@@ -113,7 +113,8 @@ pub fn run_alone<F: Shelf, K: Sink>(
     }) result }
 {
     match find(alloc, words, shelf) {
-        Ok(Finding::Line(status)) => tell_line(status, out),
+        Ok(Finding::Line(status)) => tell_line(status, status_line(status), out),
+        Ok(Finding::Refused(line)) => tell_line(Status::Source, line.as_slice(), out),
         Ok(Finding::Checked(report)) => tell_report(alloc, report, out),
         Err(_) => without_memory(out),
     }

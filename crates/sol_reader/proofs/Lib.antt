@@ -1,12 +1,6 @@
-pub mod Numbers
-pub mod Runs
-pub mod Marks
-pub mod Scans
-pub mod Symbols
-pub mod Many
-pub mod Places
+pub mod Points
 pub mod Names
-pub mod Lexed
-pub mod Fitting
-pub mod Parsed
+pub mod Steps
+pub mod Members
 pub mod Sources
+pub mod Each

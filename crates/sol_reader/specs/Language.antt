@@ -1,8 +1,21 @@
--- The language: which tokens spell a contract, and which contracts it has.
-use Rattle.std.specs.Prelude.{◌≡◌, ◌≢◌, ℕ, zero, suc, ◌+◌, ◌<◌, ◌≤◌, List, [], ◌∷◌, ◌++◌, length, map, false, Result, Ok, Err}
+-- The first language: the tree of a file and its contract.
+use Rattle.std.specs.Prelude.{◌≡◌, ◌≢◌, ℕ, ◌+◌, ◌≤◌, Bool, false, List, [], ◌∷◌, ◌++◌, length, map, Option, Some, None, Result, Ok, Err, slice_get}
 use lib.IntN.{ℤ}
-use Rattle.chc_nums.specs.Types.{IsSize, InRange}
 use Rattle.chc_nums.specs.declared.typed.Ty.TheVariants as ty
+use Rattle.sol_tree.specs.declared.expr.BinaryOp.{BinaryOp}
+use Rattle.sol_tree.specs.declared.expr.BinaryOp.TheVariants as operator
+use Rattle.sol_tree.specs.declared.expr.ExprTree.{ExprTree}
+use Rattle.sol_tree.specs.declared.expr.ExprTree.TheVariants as expr
+use Rattle.sol_tree.specs.declared.types.Type.TheVariants as type_tree
+use Rattle.sol_tree.specs.declared.stmt.AssignOp.TheVariants as assign
+use Rattle.sol_tree.specs.declared.stmt.Simple.TheVariants as simple
+use Rattle.sol_tree.specs.declared.stmt.Stmt.{Stmt}
+use Rattle.sol_tree.specs.declared.stmt.Stmt.TheVariants as stmt
+use Rattle.sol_tree.specs.declared.file.FunMark.TheVariants as mark
+use Rattle.sol_tree.specs.declared.file.Member.{Member}
+use Rattle.sol_tree.specs.declared.file.Member.TheVariants as member
+use Rattle.sol_tree.specs.declared.file.Unit.TheVariants as unit
+use Rattle.sol_tree.specs.declared.file.File.{File}
 use Rattle.sol_first.specs.declared.contract.Variable.{Variable}
 use Rattle.sol_first.specs.declared.contract.Function.{Function}
 use Rattle.sol_first.specs.declared.contract.Contract.{Contract}
@@ -10,96 +23,64 @@ use Rattle.sol_first.specs.declared.contract.Order.{Order}
 use Rattle.sol_first.specs.declared.contract.Order.TheVariants as order
 use Rattle.sol_first.specs.declared.contract.Step.{Step}
 use Rattle.sol_first.specs.declared.contract.Step.TheVariants as step
+use Rattle.sol_first.specs.Typed.{IsTyped}
+use Rattle.sol_reader.specs.Places.{line_of, column_of}
 use Rattle.sol_reader.specs.declared.fault.ReadFault.{ReadFault}
 use Rattle.sol_reader.specs.declared.fault.ReadFault.TheVariants as fault
-use Rattle.sol_reader.specs.declared.token.Symbol.{Symbol}
-use Rattle.sol_reader.specs.declared.token.Symbol.TheVariants as symbol
-use Rattle.sol_reader.specs.declared.token.TokenKind.{TokenKind}
-use Rattle.sol_reader.specs.declared.token.TokenKind.TheVariants as kind
-use Rattle.sol_reader.specs.declared.token.Token.{Token}
-use Rattle.sol_reader.specs.Words.{is_reserved}
-use Rattle.sol_reader.specs.Tokens.{Tokenizes}
 
--- a token that may stand anywhere, or at one line and column
-pub data Expected : Type 0 where
-  anywhere : TokenKind → Expected
-  standing : ℕ → ℕ → TokenKind → Expected
+-- ---- the trees of its forms; the places of their tokens are free, but for those of a step's line and column
 
-abbrev pub Fits : Expected → Token → Type 0
-Fits (anywhere k) t = t.kind ≡ k
-Fits (standing line col k) t = (t.kind ≡ k) × (t.line ≡ line) × (t.col ≡ col)
+-- `ID`, the name of the variable at a place
+pub data IsNamed (vs : List Variable) : ExprTree → ℕ → Type 0 where
+  named : {at v : ℕ} {x : Variable} → slice_get vs v ≡ Some x → IsNamed vs (expr.Named at x.name) v
 
--- tokens that are the expected ones, one by one, and then the rest
-abbrev pub Begins : List Expected → List Token → List Token → Type 0
-Begins [] ts rest = ts ≡ rest
-Begins (e ∷ es) [] rest = ⊥
-Begins (e ∷ es) (t ∷ ts) rest = Fits e t × Begins es ts rest
+-- `NUM`, in any spelling and with no unit
+pub data IsNumber : ExprTree → ℤ → Type 0 where
+  number : {at : ℕ} {n : ℤ} {hex : Bool} → IsNumber (expr.Number at n hex None) n
 
-abbrev pub mark : Symbol → Expected
-mark s = anywhere (kind.Symbol s)
+abbrev pub operator_of : Order → BinaryOp
+operator_of order.Less = operator.Less
+operator_of order.LessEqual = operator.LessEqual
+operator_of order.Greater = operator.Greater
+operator_of order.GreaterEqual = operator.GreaterEqual
 
-abbrev pub word : List ℕ → Expected
-word w = anywhere (kind.Word w)
+-- `ID c NUM`, with `<`, `<=`, `>` or `>=` for c
+pub data IsTest (vs : List Variable) : ExprTree → ℕ → Order → ℤ → Type 0 where
+  compared : {at v sign : ℕ} {o : Order} {n : ℤ} {x e : ExprTree} → IsNamed vs x v → IsNumber e n → IsTest vs (expr.Binary at x sign (operator_of o) e) v o n
 
-abbrev pub number : ℤ → Expected
-number z = anywhere (kind.Number z)
+-- a statement and its step
+pub data IsStep (text : List ℕ) (vs : List Variable) : Stmt → Step → Type 0 where
+  -- `require ( ID c NUM ) ;`
+  required : {at v : ℕ} {o : Order} {n : ℤ} {e : ExprTree} → IsTest vs e v o n → IsStep text vs (stmt.Require at e None) (step.Require v o n)
+  -- `assert ( ID c NUM ) ;`, which stands where its word stands
+  asserted : {at v : ℕ} {o : Order} {n : ℤ} {e : ExprTree} → IsTest vs e v o n → IsStep text vs (stmt.Assert at e) (step.Assert (line_of text at) (column_of text at) v o n)
+  -- `ID = NUM ;`
+  put : {at first sign to : ℕ} {n : ℤ} {x e : ExprTree} → IsNamed vs x to → IsNumber e n → IsStep text vs (stmt.Simple at (simple.Assignment first x sign assign.Assign e)) (step.Put to n)
+  -- `ID = ID ;`
+  moved : {at first sign to from : ℕ} {x y : ExprTree} → IsNamed vs x to → IsNamed vs y from → IsStep text vs (stmt.Simple at (simple.Assignment first x sign assign.Assign y)) (step.Move to from)
+  -- `ID = ID + NUM ;`, which stands where its `+` stands
+  added : {at first sign begin plus to from : ℕ} {n : ℤ} {x y e : ExprTree} → IsNamed vs x to → IsNamed vs y from → IsNumber e n → IsStep text vs (stmt.Simple at (simple.Assignment first x sign assign.Assign (expr.Binary begin y plus operator.Add e))) (step.Add (line_of text plus) (column_of text plus) to from n)
+  -- `ID = ID - NUM ;`, which stands where its `-` stands
+  subtracted : {at first sign begin minus to from : ℕ} {n : ℤ} {x y e : ExprTree} → IsNamed vs x to → IsNamed vs y from → IsNumber e n → IsStep text vs (stmt.Simple at (simple.Assignment first x sign assign.Assign (expr.Binary begin y minus operator.Subtract e))) (step.Subtract (line_of text minus) (column_of text minus) to from n)
 
-abbrev pub sign : Order → Symbol
-sign order.Less = symbol.Less
-sign order.LessEqual = symbol.LessEqual
-sign order.Greater = symbol.Greater
-sign order.GreaterEqual = symbol.GreaterEqual
+-- two lists whose entries go together, one by one
+pub data Pairs {A B : Type 0} (R : A → B → Type 0) : List A → List B → Type 0 where
+  none : Pairs R [] []
+  more : {x : A} {y : B} {xs : List A} {ys : List B} → R x y → Pairs R xs ys → Pairs R (x ∷ xs) (y ∷ ys)
 
--- the name and the size of the variable at a place
-abbrev pub name_at : List Variable → ℕ → List ℕ
-name_at [] p = []
-name_at (v ∷ vs) zero = v.name
-name_at (v ∷ vs) (suc p) = name_at vs p
+-- `uintN ID ;`
+pub data IsVariable : Member → Variable → Type 0 where
+  declared : {at first type_at name_at size : ℕ} {name : List ℕ} → IsVariable (member.Var at (record { at = first; ty = type_tree.Elementary type_at (ty.Uint size); marks = []; name = record { at = name_at; name = name }; initial = None })) (record { size = size; name = name })
 
-abbrev pub size_at : List Variable → ℕ → ℕ
-size_at [] p = 0
-size_at (v ∷ vs) zero = v.size
-size_at (v ∷ vs) (suc p) = size_at vs p
+-- `function ID ( ) public { .. }`
+pub data IsFunction (text : List ℕ) (vs : List Variable) : Member → Function → Type 0 where
+  defined : {at first name_at mark_at block_at : ℕ} {name : List ℕ} {body : List Stmt} {steps : List Step} → Pairs (IsStep text vs) body steps → IsFunction text vs (member.Fun at (record { at = first; name = record { at = name_at; name = name }; params = []; marks = mark.Public mark_at ∷ []; returns = None; body = Some (record { at = block_at; statements = body }) })) (record { name = name; steps = steps })
 
--- `( x < n ) ;`
-abbrev pub tested : List Variable → ℕ → Order → ℤ → List Expected
-tested vs v o n = mark symbol.OpenParenthesis ∷ (word (name_at vs v) ∷ (mark (sign o) ∷ (number n ∷ (mark symbol.CloseParenthesis ∷ (mark symbol.Semicolon ∷ [])))))
+-- `contract ID { .. }`, the variables before the functions
+pub data IsFileOf (text : List ℕ) : Contract → File → Type 0 where
+  contract : {at first name_at : ℕ} {name : List ℕ} {variables : List Variable} {functions : List Function} {declarations definitions : List Member} → Pairs IsVariable declarations variables → Pairs (IsFunction text variables) definitions functions → IsFileOf text (record { name = name; variables = variables; functions = functions }) (record { at = at; units = unit.Contract first false (record { at = name_at; name = name }) [] (declarations ++ definitions) ∷ [] })
 
--- `require ( x < n ) ;`, `assert ( x < n ) ;`, `x = n ;`, `x = y ;`, `x = y + n ;`, `x = y - n ;`
-abbrev pub expected_step : List Variable → Step → List Expected
-expected_step vs (step.Require v o n) = mark symbol.Require ∷ tested vs v o n
-expected_step vs (step.Assert line col v o n) = standing line col (kind.Symbol symbol.Assert) ∷ tested vs v o n
-expected_step vs (step.Put to n) = word (name_at vs to) ∷ (mark symbol.Equal ∷ (number n ∷ (mark symbol.Semicolon ∷ [])))
-expected_step vs (step.Move to from) = word (name_at vs to) ∷ (mark symbol.Equal ∷ (word (name_at vs from) ∷ (mark symbol.Semicolon ∷ [])))
-expected_step vs (step.Add line col to from n) = word (name_at vs to) ∷ (mark symbol.Equal ∷ (word (name_at vs from) ∷ (standing line col (kind.Symbol symbol.Plus) ∷ (number n ∷ (mark symbol.Semicolon ∷ [])))))
-expected_step vs (step.Subtract line col to from n) = word (name_at vs to) ∷ (mark symbol.Equal ∷ (word (name_at vs from) ∷ (standing line col (kind.Symbol symbol.Minus) ∷ (number n ∷ (mark symbol.Semicolon ∷ [])))))
-
--- `T x ;`
-abbrev pub expected_variable : Variable → List Expected
-expected_variable v = anywhere (kind.Type v.size) ∷ (word v.name ∷ (mark symbol.Semicolon ∷ []))
-
-abbrev pub each : {A : Type 0} → (A → List Expected) → List A → List Expected
-each f [] = []
-each f (x ∷ xs) = f x ++ each f xs
-
--- `function f ( ) public { .. }`
-abbrev pub expected_function : List Variable → Function → List Expected
-expected_function vs f = mark symbol.Function ∷ (word f.name ∷ (mark symbol.OpenParenthesis ∷ (mark symbol.CloseParenthesis ∷ (mark symbol.Public ∷ (mark symbol.OpenBrace ∷ (each (expected_step vs) f.steps ++ (mark symbol.CloseBrace ∷ [])))))))
-
--- `contract C { .. }`, the variables before the functions
-abbrev pub expected : Contract → List Expected
-expected c = mark symbol.Contract ∷ (word c.name ∷ (mark symbol.OpenBrace ∷ (each expected_variable c.variables ++ (each (expected_function c.variables) c.functions ++ (mark symbol.CloseBrace ∷ [])))))
-
-abbrev pub Spells : Contract → List Token → Type 0
-Spells c ts = Begins (expected c) ts []
-
--- a word that is not reserved
-abbrev pub IsName : List ℕ → Type 0
-IsName w = is_reserved w ≡ false
-
-abbrev pub Each : {A : Type 0} → (A → Type 0) → List A → Type 0
-Each P [] = Unit {0}
-Each P (x ∷ xs) = P x × Each P xs
+-- ---- its contracts
 
 -- the name is none of these
 abbrev pub Absent : List ℕ → List (List ℕ) → Type 0
@@ -117,53 +98,24 @@ variable_names vs = map (λ v. v.name) vs
 abbrev pub function_names : List Function → List (List ℕ)
 function_names fs = map (λ f. f.name) fs
 
-abbrev pub IsVariable : Variable → Type 0
-IsVariable v = IsSize v.size × IsName v.name
-
--- a declared variable, and a number of its type
-abbrev pub IsTest : List Variable → ℕ → ℤ → Type 0
-IsTest vs v n = (v < length vs) × InRange (ty.Uint (size_at vs v)) n
-
--- two declared variables, the one that is assigned to as wide as the one that is read
-abbrev pub IsMove : List Variable → ℕ → ℕ → Type 0
-IsMove vs to from = (to < length vs) × (from < length vs) × (size_at vs from ≤ size_at vs to)
-
-abbrev pub IsStep : List Variable → Step → Type 0
-IsStep vs (step.Require v o n) = IsTest vs v n
-IsStep vs (step.Assert line col v o n) = IsTest vs v n
-IsStep vs (step.Put to n) = IsTest vs to n
-IsStep vs (step.Move to from) = IsMove vs to from
-IsStep vs (step.Add line col to from n) = IsMove vs to from × IsTest vs from n
-IsStep vs (step.Subtract line col to from n) = IsMove vs to from × IsTest vs from n
-
-abbrev pub IsFunction : List Variable → Function → Type 0
-IsFunction vs f = IsName f.name × Each (IsStep vs) f.steps
-
 abbrev pub step_count : List Function → ℕ
 step_count [] = 0
 step_count (f ∷ fs) = length f.steps + step_count fs
 
 pub record IsGood (c : Contract) : Type 0 where
-  pub name : IsName c.name
-  pub variables : Each IsVariable c.variables
-  pub functions : Each (IsFunction c.variables) c.functions
+  pub typed : IsTyped c
   pub distinct : Differ (variable_names c.variables ++ function_names c.functions)
   pub few_variables : length c.variables ≤ 48
   pub few_functions : length c.functions ≤ 64
   pub few_steps : step_count c.functions ≤ 4096
 
--- the text is a file of the language, and the contract is what it says
-pub record IsSource (text : List ℕ) (c : Contract) : Type 0 where
-  pub tokens : List Token
-  pub tokenizes : Tokenizes [] tokens text
-  pub spells : Spells c tokens
+-- the tree of a text is that of a contract of the language
+pub record IsFirst (text : List ℕ) (f : File) (c : Contract) : Type 0 where
+  pub tree : IsFileOf text c f
   pub good : IsGood c
 
-pub source-good : (text : List ℕ) (c : Contract) → IsSource text c → IsGood c
-source-good text c s = s.good
-
--- what reading a text says: that the contract is its own, or that it has none
-abbrev pub Says : Result Contract ReadFault → List ℕ → Type 0
-Says (Ok c) text = IsSource text c
-Says (Err fault.NoMemory) text = Unit {0}
-Says (Err fault.NotBuilt) text = (c : Contract) → IsSource text c → ⊥
+-- what reading says: that the tree is the contract's, or that it is no contract's
+abbrev pub Reads : List ℕ → File → Result Contract ReadFault → Type 0
+Reads text f (Ok c) = IsFirst text f c
+Reads text f (Err fault.NoMemory) = Unit {0}
+Reads text f (Err fault.NotBuilt) = (c : Contract) → IsFirst text f c → ⊥

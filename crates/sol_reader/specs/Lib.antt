@@ -1,6 +1,4 @@
-pub mod Gives
-pub mod Words
-pub mod Tokens
-pub mod Scanning
-pub mod Reading
+pub mod Places
 pub mod Language
+pub mod Starts
+pub mod Reading

@@ -1,8 +1,29 @@
--- Reading a contract, as functions on lists of tokens.
-use Rattle.std.specs.Prelude.{◌≡◌, ◌≤◌, ℕ, zero, suc, ◌+◌, List, [], ◌∷◌, length, Bool, false, nat_eq, Option, Some, None, Result, Ok, Err, if◌then◌else◌}
+-- Reading the tree of a file, as functions.
+use Rattle.std.specs.Prelude.{◌≡◌, ℕ, suc, ◌+◌, Bool, true, false, ◌&&◌, ◌==◌, is_none, List, [], ◌∷◌, ◌++◌, length, take, drop, leb, Option, Some, None, Result, Ok, Err, if◌then◌else◌}
 use lib.IntN.{ℤ}
-use denote.Ref.{Bor}
+use Rattle.std.specs.List.{All}
 use Rattle.std.specs.Str.{bytes_eq}
+use Rattle.chc_nums.specs.declared.typed.Ty.TheVariants as ty
+use Rattle.sol_tree.specs.declared.expr.BinaryOp.{BinaryOp}
+use Rattle.sol_tree.specs.declared.expr.BinaryOp.TheVariants as operator
+use Rattle.sol_tree.specs.declared.expr.ExprTree.{ExprTree, out-ExprTree}
+use Rattle.sol_tree.specs.declared.expr.ExprTree.TheOpen.{ExprTree-F}
+use Rattle.sol_tree.specs.declared.stmt.AssignOp.TheVariants as assign
+use Rattle.sol_tree.specs.declared.stmt.Simple.{Simple}
+use Rattle.sol_tree.specs.declared.stmt.Simple.TheVariants as simple
+use Rattle.sol_tree.specs.declared.stmt.Stmt.{Stmt, out-Stmt}
+use Rattle.sol_tree.specs.declared.stmt.Stmt.TheOpen.{Stmt-F}
+use Rattle.sol_tree.specs.declared.stmt.Block.{Block}
+use Rattle.sol_tree.specs.declared.types.Type as types
+use Rattle.sol_tree.specs.declared.types.Type.TheOpen.{Type-F}
+use Rattle.sol_tree.specs.declared.file.Var.{Var}
+use Rattle.sol_tree.specs.declared.file.FunMark.{FunMark}
+use Rattle.sol_tree.specs.declared.file.FunMark.TheVariants as mark
+use Rattle.sol_tree.specs.declared.file.Fun.{Fun}
+use Rattle.sol_tree.specs.declared.file.Member.{Member}
+use Rattle.sol_tree.specs.declared.file.Member.TheVariants as member
+use Rattle.sol_tree.specs.declared.file.Unit as units
+use Rattle.sol_tree.specs.declared.file.Unit.TheVariants as unit
 use Rattle.sol_first.specs.declared.contract.Variable.{Variable}
 use Rattle.sol_first.specs.declared.contract.Function.{Function}
 use Rattle.sol_first.specs.declared.contract.Contract.{Contract}
@@ -10,224 +31,166 @@ use Rattle.sol_first.specs.declared.contract.Order.{Order}
 use Rattle.sol_first.specs.declared.contract.Order.TheVariants as order
 use Rattle.sol_first.specs.declared.contract.Step.{Step}
 use Rattle.sol_first.specs.declared.contract.Step.TheVariants as step
-use Rattle.sol_reader.specs.declared.token.Symbol.{Symbol}
-use Rattle.sol_reader.specs.declared.token.Symbol.TheVariants as symbol
-use Rattle.sol_reader.specs.declared.token.TokenKind.{TokenKind}
-use Rattle.sol_reader.specs.declared.token.TokenKind.TheVariants as kind
-use Rattle.sol_reader.specs.declared.token.Token.{Token}
-use Rattle.chc_nums.specs.declared.memory.NoMemory.{NoMemory}
+use Rattle.sol_first.specs.Typed.{StepTyped}
+use Rattle.sol_reader.specs.Places.{line_of, column_of}
 use Rattle.sol_reader.specs.declared.fault.ReadFault.{ReadFault}
 use Rattle.sol_reader.specs.declared.fault.ReadFault.TheVariants as fault
-use Rattle.sol_reader.specs.declared.steps.Place.{Place}
-use Rattle.sol_reader.specs.declared.steps.Condition.{Condition}
+use Rattle.sol_reader.specs.declared.step.Test.{Test}
 
--- what stands at the front of tokens, and the tokens after it
-abbrev pub Reader : Type 0 → Type 0
-Reader A = List Token → Option (A × List Token)
-
-abbrev pub if_value : {A B : Type 0} → Option (A × List Token) → (A → List Token → B) → B → B
-if_value None go other = other
-if_value (Some x) go other = go x.0 x.1
-
-abbrev pub then_value : {A B : Type 0} → Option (A × List Token) → (A → List Token → Option B) → Option B
+abbrev pub then_value : {A B : Type 0} → Option A → (A → Option B) → Option B
 then_value None go = None
-then_value (Some x) go = go x.0 x.1
+then_value (Some x) go = go x
 
--- what a function over slices gives, as what a reader gives
-abbrev pub Reads : {A : Type 0} → Option (A × Bor (List Token)) → Option (A × List Token) → Type 0
-Reads None read = read ≡ None
-Reads (Some x) read = read ≡ Some (x.0, x.1.now)
-
-abbrev pub ReadsName : Option (Bor (List ℕ) × Bor (List Token)) → Option (List ℕ × List Token) → Type 0
-ReadsName None read = read ≡ None
-ReadsName (Some x) read = read ≡ Some (x.0.now, x.1.now)
-
--- the symbols by number, to tell them apart
-abbrev pub symbol_code : Symbol → ℕ
-symbol_code symbol.Contract = 0
-symbol_code symbol.Function = 1
-symbol_code symbol.Public = 2
-symbol_code symbol.Require = 3
-symbol_code symbol.Assert = 4
-symbol_code symbol.OpenParenthesis = 5
-symbol_code symbol.CloseParenthesis = 6
-symbol_code symbol.OpenBrace = 7
-symbol_code symbol.CloseBrace = 8
-symbol_code symbol.Semicolon = 9
-symbol_code symbol.Equal = 10
-symbol_code symbol.Plus = 11
-symbol_code symbol.Minus = 12
-symbol_code symbol.Less = 13
-symbol_code symbol.LessEqual = 14
-symbol_code symbol.Greater = 15
-symbol_code symbol.GreaterEqual = 16
-
-unfoldable pub same_symbol : Symbol → Symbol → Bool
-same_symbol a b = nat_eq (symbol_code a) (symbol_code b)
-
-abbrev pub is_symbol : Symbol → TokenKind → Bool
-is_symbol s (kind.Symbol r) = same_symbol r s
-is_symbol s (kind.Type n) = false
-is_symbol s (kind.Word w) = false
-is_symbol s (kind.Number z) = false
-
-abbrev pub symbol_at : Symbol → Reader Place
-symbol_at s [] = None
-symbol_at s (t ∷ ts) = if is_symbol s t.kind then Some (record { line = t.line; col = t.col }, ts) else None
-
-abbrev pub name_of : TokenKind → List Token → Option (List ℕ × List Token)
-name_of (kind.Symbol s) ts = None
-name_of (kind.Type n) ts = None
-name_of (kind.Word w) ts = Some (w, ts)
-name_of (kind.Number z) ts = None
-
-abbrev pub name_at : Reader (List ℕ)
-name_at [] = None
-name_at (t ∷ ts) = name_of t.kind ts
-
-abbrev pub size_of : TokenKind → List Token → Option (ℕ × List Token)
-size_of (kind.Symbol s) ts = None
-size_of (kind.Type n) ts = Some (n, ts)
-size_of (kind.Word w) ts = None
-size_of (kind.Number z) ts = None
-
-abbrev pub size_at : Reader ℕ
-size_at [] = None
-size_at (t ∷ ts) = size_of t.kind ts
-
-abbrev pub number_of : TokenKind → List Token → Option (ℤ × List Token)
-number_of (kind.Symbol s) ts = None
-number_of (kind.Type n) ts = None
-number_of (kind.Word w) ts = None
-number_of (kind.Number z) ts = Some (z, ts)
-
-abbrev pub number_at : Reader ℤ
-number_at [] = None
-number_at (t ∷ ts) = number_of t.kind ts
-
-unfoldable pub order_at : Reader Order
-order_at ts =
-    if_value (symbol_at symbol.Less ts) (λ p us. Some (order.Less, us)) (
-    if_value (symbol_at symbol.LessEqual ts) (λ p us. Some (order.LessEqual, us)) (
-    if_value (symbol_at symbol.Greater ts) (λ p us. Some (order.Greater, us)) (
-    if_value (symbol_at symbol.GreaterEqual ts) (λ p us. Some (order.GreaterEqual, us)) None)))
+abbrev pub if_value : {A B : Type 0} → Option A → (A → B) → B → B
+if_value None go other = other
+if_value (Some x) go other = go x
 
 -- the first place of a name among variables, counted from n on
 abbrev pub place_from : ℕ → List ℕ → List Variable → Option ℕ
 place_from n w [] = None
 place_from n w (v ∷ vs) = if bytes_eq v.name w then Some n else place_from (n + 1) w vs
 
-abbrev pub with_rest : List Token → Option ℕ → Option (ℕ × List Token)
-with_rest ts None = None
-with_rest ts (Some n) = Some (n, ts)
+abbrev pub named_in : List Variable → ExprTree-F ExprTree → Option ℕ
+named_in vs (ExprTree-F.Named at w) = place_from 0 w vs
+named_in vs e = None
 
-unfoldable pub variable_at : List Variable → Reader ℕ
-variable_at vs ts = then_value (name_at ts) (λ w us. with_rest us (place_from 0 w vs))
+-- `ID`
+unfoldable pub variable_of : List Variable → ExprTree → Option ℕ
+variable_of vs e = named_in vs (out-ExprTree e)
 
--- `( ID c NUM ) ;`
-unfoldable pub condition_at : List Variable → Reader Condition
-condition_at vs ts =
-    then_value (symbol_at symbol.OpenParenthesis ts) (λ p1 t1.
-    then_value (variable_at vs t1) (λ v t2.
-    then_value (order_at t2) (λ o t3.
-    then_value (number_at t3) (λ n t4.
-    then_value (symbol_at symbol.CloseParenthesis t4) (λ p2 t5.
-    then_value (symbol_at symbol.Semicolon t5) (λ p3 t6.
-    Some (record { variable = v; order = o; number = n }, t6)))))))
+abbrev pub number_in : ExprTree-F ExprTree → Option ℤ
+number_in (ExprTree-F.Number at n hex None) = Some n
+number_in e = None
 
-abbrev pub ended : Step → Reader Step
-ended s ts = then_value (symbol_at symbol.Semicolon ts) (λ p us. Some (s, us))
+-- `NUM`
+unfoldable pub number_of : ExprTree → Option ℤ
+number_of e = number_in (out-ExprTree e)
 
--- `+ NUM ;`, `- NUM ;` or `;`
-unfoldable pub operation_at : ℕ → ℕ → Reader Step
-operation_at to from ts =
-    if_value (symbol_at symbol.Plus ts) (λ p us. then_value (number_at us) (λ n rest. ended (step.Add p.line p.col to from n) rest)) (
-    if_value (symbol_at symbol.Minus ts) (λ p us. then_value (number_at us) (λ n rest. ended (step.Subtract p.line p.col to from n) rest)) (
-    ended (step.Move to from) ts))
+abbrev pub order_of : BinaryOp → Option Order
+order_of operator.Less = Some order.Less
+order_of operator.LessEqual = Some order.LessEqual
+order_of operator.Greater = Some order.Greater
+order_of operator.GreaterEqual = Some order.GreaterEqual
+order_of o = None
 
--- `NUM ;`, or a variable and an operation
-unfoldable pub value_at : List Variable → ℕ → Reader Step
-value_at vs to ts = if_value (number_at ts) (λ n us. ended (step.Put to n) us) (then_value (variable_at vs ts) (λ from us. operation_at to from us))
+abbrev pub test_in : List Variable → ExprTree-F ExprTree → Option Test
+test_in vs (ExprTree-F.Binary at x sign o e) = then_value (order_of o) (λ o. then_value (variable_of vs x) (λ v. then_value (number_of e) (λ n. Some (record { variable = v; order = o; number = n }))))
+test_in vs e = None
 
-unfoldable pub assignment_at : List Variable → Reader Step
-assignment_at vs ts = then_value (variable_at vs ts) (λ to us. then_value (symbol_at symbol.Equal us) (λ p rest. value_at vs to rest))
+-- `ID c NUM`
+unfoldable pub test_of : List Variable → ExprTree → Option Test
+test_of vs e = test_in vs (out-ExprTree e)
 
-abbrev pub required : Option (Condition × List Token) → Option (Step × List Token)
-required read = then_value read (λ c us. Some (step.Require c.variable c.order c.number, us))
+abbrev pub changed : List ℕ → BinaryOp → ℕ → ℕ → ℕ → ℤ → Option Step
+changed text operator.Add at to from n = Some (step.Add (line_of text at) (column_of text at) to from n)
+changed text operator.Subtract at to from n = Some (step.Subtract (line_of text at) (column_of text at) to from n)
+changed text o at to from n = None
 
-abbrev pub asserted : Place → Option (Condition × List Token) → Option (Step × List Token)
-asserted p read = then_value read (λ c us. Some (step.Assert p.line p.col c.variable c.order c.number, us))
+abbrev pub change_in : List ℕ → List Variable → ℕ → ExprTree-F ExprTree → Option Step
+change_in text vs to (ExprTree-F.Binary at x sign o e) = then_value (variable_of vs x) (λ from. then_value (number_of e) (λ n. changed text o sign to from n))
+change_in text vs to e = None
 
-unfoldable pub step_at : List Variable → Reader Step
-step_at vs ts =
-    if_value (symbol_at symbol.Require ts) (λ p us. required (condition_at vs us)) (
-    if_value (symbol_at symbol.Assert ts) (λ p us. asserted p (condition_at vs us)) (
-    assignment_at vs ts))
+-- `ID + NUM` or `ID - NUM`
+unfoldable pub change_of : List ℕ → List Variable → ℕ → ExprTree → Option Step
+change_of text vs to e = change_in text vs to (out-ExprTree e)
 
-abbrev pub cons : {A : Type 0} → A → List A × List Token → List A × List Token
-cons a p = (a ∷ p.0, p.1)
+-- what is assigned
+unfoldable pub value_of : List ℕ → List Variable → ℕ → ExprTree → Option Step
+value_of text vs to e = if_value (number_of e) (λ n. Some (step.Put to n)) (if_value (variable_of vs e) (λ from. Some (step.Move to from)) (change_of text vs to e))
 
--- as many as one can read, up to a number, and the tokens after them
-unfoldable pub many : {A : Type 0} → Reader A → ℕ → List Token → List A × List Token
-many one zero ts = ([], ts)
-many one (suc k) ts = if_value (one ts) (λ a us. cons a (many one k us)) ([], ts)
+abbrev pub assignment_of : List ℕ → List Variable → Simple → Option Step
+assignment_of text vs (simple.Assignment at x sign assign.Assign e) = then_value (variable_of vs x) (λ to. value_of text vs to e)
+assignment_of text vs s = None
 
--- what a function gives that may want memory, as what a reader gives
-abbrev pub Found : {A : Type 0} → Result (A × Bor (List Token)) ReadFault → Option (A × List Token) → Type 0
-Found (Ok x) read = read ≡ Some (x.0, x.1.now)
-Found (Err fault.NoMemory) read = Unit {0}
-Found (Err fault.NotBuilt) read = read ≡ None
+abbrev pub required : Option Test → Option Step
+required test = then_value test (λ t. Some (step.Require t.variable t.order t.number))
 
-abbrev pub Gathers : {A : Type 0} → Result (List A × Bor (List Token)) NoMemory → List A × List Token → Type 0
-Gathers (Ok x) p = (x.0 ≡ p.0) × (x.1.now ≡ p.1)
-Gathers (Err e) p = Unit {0}
+abbrev pub asserted : List ℕ → ℕ → Option Test → Option Step
+asserted text at test = then_value test (λ t. Some (step.Assert (line_of text at) (column_of text at) t.variable t.order t.number))
 
-abbrev pub AtMost : {A : Type 0} → ℕ → Result (List A × Bor (List Token)) NoMemory → Type 0
-AtMost n (Ok x) = length x.0 ≤ n
-AtMost n (Err e) = Unit {0}
+abbrev pub step_in : List ℕ → List Variable → Stmt-F Stmt → Option Step
+step_in text vs (Stmt-F.Require at e None) = required (test_of vs e)
+step_in text vs (Stmt-F.Assert at e) = asserted text at (test_of vs e)
+step_in text vs (Stmt-F.Simple at s) = assignment_of text vs s
+step_in text vs s = None
 
--- `T ID ;`
-unfoldable pub declaration_at : Reader Variable
-declaration_at ts =
-    then_value (size_at ts) (λ n t1.
-    then_value (name_at t1) (λ w t2.
-    then_value (symbol_at symbol.Semicolon t2) (λ p t3.
-    Some (record { size = n; name = w }, t3))))
+-- a statement
+unfoldable pub step_of : List ℕ → List Variable → Stmt → Option Step
+step_of text vs s = step_in text vs (out-Stmt s)
 
--- `function ID ( ) public {`
-unfoldable pub head_at : Reader (List ℕ)
-head_at ts =
-    then_value (symbol_at symbol.Function ts) (λ p1 t1.
-    then_value (name_at t1) (λ w t2.
-    then_value (symbol_at symbol.OpenParenthesis t2) (λ p2 t3.
-    then_value (symbol_at symbol.CloseParenthesis t3) (λ p3 t4.
-    then_value (symbol_at symbol.Public t4) (λ p4 t5.
-    then_value (symbol_at symbol.OpenBrace t5) (λ p5 t6.
-    Some (w, t6)))))))
+-- ---- members
 
-abbrev pub body_of : List ℕ → List Step × List Token → Option (Function × List Token)
-body_of w p = then_value (symbol_at symbol.CloseBrace p.1) (λ q us. Some (record { name = w; steps = p.0 }, us))
+-- what one gives of each entry, after those made; none where it gives none of some entry
+abbrev pub all_onto : {A B : Type 0} → (A → Option B) → List B → List A → Option (List B)
+all_onto one made [] = Some made
+all_onto one made (x ∷ xs) = then_value (one x) (λ y. all_onto one (made ++ y ∷ []) xs)
 
-unfoldable pub function_at : List Variable → Reader Function
-function_at vs ts = then_value (head_at ts) (λ w us. body_of w (many (step_at vs) 4096 us))
+abbrev pub size_in : Type-F types.Type → Option ℕ
+size_in (Type-F.Elementary at (ty.Uint n)) = Some n
+size_in t = None
 
--- `contract ID {`
-unfoldable pub opening_at : Reader (List ℕ)
-opening_at ts =
-    then_value (symbol_at symbol.Contract ts) (λ p1 t1.
-    then_value (name_at t1) (λ w t2.
-    then_value (symbol_at symbol.OpenBrace t2) (λ p2 t3.
-    Some (w, t3))))
+-- `uintN`
+unfoldable pub size_of : types.Type → Option ℕ
+size_of t = size_in (types.out-Type t)
 
-abbrev pub whole : Contract → List Token → Option Contract
-whole c [] = Some c
-whole c (t ∷ ts) = None
+abbrev pub is_bare : Var → Bool
+is_bare v = (length v.marks == 0) && is_none v.initial
 
-abbrev pub closing_of : List ℕ → List Variable → List Function × List Token → Option Contract
-closing_of w vs p = then_value (symbol_at symbol.CloseBrace p.1) (λ q us. whole (record { name = w; variables = vs; functions = p.0 }) us)
+abbrev pub var_of : Var → Option Variable
+var_of v = if is_bare v then then_value (size_of v.ty) (λ n. Some (record { size = n; name = v.name.name })) else None
 
-abbrev pub members_of : List ℕ → List Variable × List Token → Option Contract
-members_of w p = closing_of w p.0 (many (function_at p.0) 64 p.1)
+-- `uintN ID ;`
+abbrev pub variable_in : Member → Option Variable
+variable_in (member.Var at v) = var_of v
+variable_in m = None
 
-unfoldable pub contract_of : List Token → Option Contract
-contract_of ts = then_value (opening_at ts) (λ w us. members_of w (many declaration_at 48 us))
+abbrev pub is_public : List FunMark → Bool
+is_public (mark.Public at ∷ []) = true
+is_public marks = false
+
+abbrev pub is_open : Fun → Bool
+is_open f = (length f.params == 0) && (is_public f.marks && is_none f.returns)
+
+abbrev pub body_in : List ℕ → List Variable → List ℕ → Option Block → Option Function
+body_in text vs name None = None
+body_in text vs name (Some b) = then_value (all_onto (step_of text vs) [] b.statements) (λ ss. Some (record { name = name; steps = ss }))
+
+abbrev pub fun_of : List ℕ → List Variable → Fun → Option Function
+fun_of text vs f = if is_open f then body_in text vs f.name.name f.body else None
+
+-- `function ID ( ) public { .. }`
+unfoldable pub function_in : List ℕ → List Variable → Member → Option Function
+function_in text vs (member.Fun at f) = fun_of text vs f
+function_in text vs m = None
+
+-- how many members are variables before the first that is none
+abbrev pub leading : List Member → ℕ
+leading [] = 0
+leading (member.Var at v ∷ ms) = suc (leading ms)
+leading (m ∷ ms) = 0
+
+abbrev pub with_functions : List ℕ → List ℕ → List Variable → List Member → Option Contract
+with_functions text name vs ms = then_value (all_onto (function_in text vs) [] ms) (λ fs. Some (record { name = name; variables = vs; functions = fs }))
+
+unfoldable pub members_of : List ℕ → List ℕ → List Member → Option Contract
+members_of text name ms = then_value (all_onto variable_in [] (take (leading ms) ms)) (λ vs. if leb (length vs) 48 then with_functions text name vs (drop (leading ms) ms) else None)
+
+-- `contract ID { .. }`
+abbrev pub unit_of : List ℕ → units.Unit → Option Contract
+unit_of text (unit.Contract at abstracted name bases ms) = if abstracted then None else (if length bases == 0 then members_of text name.name ms else None)
+unit_of text u = None
+
+abbrev pub units_of : List ℕ → List units.Unit → Option Contract
+units_of text [] = None
+units_of text (u ∷ []) = unit_of text u
+units_of text (u ∷ w ∷ us) = None
+
+-- the steps of a function are well typed
+unfoldable pub FunctionTyped : List Variable → Function → Type 0
+FunctionTyped vs f = All (StepTyped vs) f.steps
+
+-- what a function gives that may want memory: what reading gives, or that memory was wanting
+abbrev pub Gives : {A : Type 0} → Result A ReadFault → Option A → Type 0
+Gives (Ok x) read = read ≡ Some x
+Gives (Err fault.NoMemory) read = Unit {0}
+Gives (Err fault.NotBuilt) read = read ≡ None

@@ -1,37 +1,51 @@
 // Which contracts the language has.
 
-ghost use Rattle.std.specs.Prelude.{◌≡◌, ◌≤◌, ◌++◌, ◌↔◌, ◌<◌, IsTrue, MatchOption, length, true};
+ghost use Rattle.std.specs.Prelude.{◌≡◌, ◌≤◌, ◌++◌, ◌↔◌, IsTrue, length};
+ghost use Rattle.std.specs.List.{All};
 ghost use Rattle.chc_nums.specs.Types.{InRange, IsSize};
 ghost use Rattle.chc_nums.specs.declared.typed.Ty.TheVariants as ty;
-ghost use Rattle.sol_reader.specs.Language.{IsName, Each, Absent, Differ, variable_names, function_names, IsVariable, IsTest, IsMove, IsStep, IsFunction, step_count, IsGood, size_at};
+ghost use Rattle.sol_first.specs.Typed.{IsDeclared, IsValue, StepTyped, size_at};
+ghost use Rattle.sol_reader.specs.Reading.{FunctionTyped};
+ghost use Rattle.sol_reader.specs.Language.{Absent, Differ, variable_names, function_names, step_count, IsGood};
 
-use crate::words::is_reserved;
 use chc_nums::{Name, Ty, range};
 use sol_first::{Contract, Function, Step, Variable};
 
-fn is_name(name: &Name) -> bool
-    ensures { IsTrue result ↔ IsName name.now }
+// Whether a number of bytes is that of a type.
+fn is_size(size: u8) -> bool
+    ensures { IsTrue result ↔ IsSize size }
 {
-    !is_reserved(name.as_str())
+    1 <= size && size <= 12
 }
 
-fn is_variable(variable: &Variable) -> bool
-    ensures { IsTrue result ↔ IsVariable variable.now }
-{
-    1 <= variable.size && variable.size <= 12 && is_name(&variable.name)
-}
-
-fn are_variables(variables: &[Variable]) -> bool
-    ensures { IsTrue result ↔ Each IsVariable variables.now }
+#[tactic(auto, using(crate::proofs::Each::each))]
+fn are_sized(variables: &[Variable]) -> bool
+    ensures { IsTrue result ↔ All (λ v. IsSize v.size) variables.now }
 {
     let mut rest = variables;
     while let [variable, more @ ..] = rest {
-        if !is_variable(variable) {
+        if !is_size(variable.size) {
             return false;
         }
         rest = more;
     }
     true
+}
+
+// The size of the variable at a place, or 0 where none is declared.
+fn size_at(variables: &[Variable], place: u32) -> u8
+    ensures { result ≡ size_at variables.now place }
+{
+    match variables.get(place as usize) {
+        None => 0,
+        Some(variable) => variable.size,
+    }
+}
+
+fn is_declared(variables: &[Variable], place: u32) -> bool
+    ensures { IsTrue result ↔ IsDeclared variables.now place }
+{
+    (place as usize) < variables.len()
 }
 
 fn is_of_size(size: u8, number: i128) -> bool
@@ -42,47 +56,34 @@ fn is_of_size(size: u8, number: i128) -> bool
     least <= number && number <= greatest
 }
 
-// The size of the variable at a place, where one is declared.
-fn size_at(variables: &[Variable], place: u32) -> Option<u8>
-    ensures { MatchOption result (length variables.now ≤ place) (λ size. (place < length variables.now) × (size_at variables.now place ≡ size)) }
-{
-    let variable = variables.get(place as usize)?;
-    Some(variable.size)
-}
-
-#[tactic(auto, using(crate::proofs::Places::sizes))]
+// Whether a variable is declared and a number is one of its values.
+#[tactic(auto, using(crate::proofs::Each::sizes))]
 fn is_test(variables: &[Variable], place: u32, number: i128) -> bool
-    requires { Each IsVariable variables.now }
-    ensures { IsTrue result ↔ IsTest variables.now place number }
+    requires { All (λ v. IsSize v.size) variables.now }
+    ensures { IsTrue result ↔ (IsDeclared variables.now place × IsValue variables.now place number) }
 {
-    match size_at(variables, place) {
-        Some(size) => is_of_size(size, number),
-        None => false,
-    }
+    is_declared(variables, place) && is_of_size(size_at(variables, place), number)
 }
 
+// Whether two variables are declared and the first is as wide as the second.
 fn is_move(variables: &[Variable], to: u32, from: u32) -> bool
-    ensures { IsTrue result ↔ IsMove variables.now to from }
+    ensures { IsTrue result ↔ (IsDeclared variables.now to × IsDeclared variables.now from × (size_at variables.now from ≤ size_at variables.now to)) }
 {
-    match size_at(variables, to) {
-        Some(target) => match size_at(variables, from) {
-            Some(source) => source <= target,
-            None => false,
-        },
-        None => false,
-    }
+    is_declared(variables, to)
+        && is_declared(variables, from)
+        && size_at(variables, from) <= size_at(variables, to)
 }
 
-fn is_operation(variables: &[Variable], to: u32, from: u32, number: i128) -> bool
-    requires { Each IsVariable variables.now }
-    ensures { IsTrue result ↔ (IsMove variables.now to from × IsTest variables.now from number) }
+fn is_change(variables: &[Variable], to: u32, from: u32, number: i128) -> bool
+    requires { All (λ v. IsSize v.size) variables.now }
+    ensures { IsTrue result ↔ (IsDeclared variables.now to × IsDeclared variables.now from × (size_at variables.now from ≤ size_at variables.now to) × IsValue variables.now from number) }
 {
     is_move(variables, to, from) && is_test(variables, from, number)
 }
 
-fn is_step(variables: &[Variable], step: Step) -> bool
-    requires { Each IsVariable variables.now }
-    ensures { IsTrue result ↔ IsStep variables.now step }
+fn is_typed(variables: &[Variable], step: Step) -> bool
+    requires { All (λ v. IsSize v.size) variables.now }
+    ensures { IsTrue result ↔ StepTyped variables.now step }
 {
     match step {
         Step::Require {
@@ -102,23 +103,24 @@ fn is_step(variables: &[Variable], step: Step) -> bool
             from,
             number,
             ..
-        } => is_operation(variables, to, from, number),
+        } => is_change(variables, to, from, number),
         Step::Subtract {
             to,
             from,
             number,
             ..
-        } => is_operation(variables, to, from, number),
+        } => is_change(variables, to, from, number),
     }
 }
 
-fn are_steps(variables: &[Variable], steps: &[Step]) -> bool
-    requires { Each IsVariable variables.now }
-    ensures { IsTrue result ↔ Each (IsStep variables.now) steps.now }
+#[tactic(auto, using(crate::proofs::Each::each))]
+fn are_typed(variables: &[Variable], steps: &[Step]) -> bool
+    requires { All (λ v. IsSize v.size) variables.now }
+    ensures { IsTrue result ↔ All (StepTyped variables.now) steps.now }
 {
     let mut rest = steps;
     while let [step, more @ ..] = rest {
-        if !is_step(variables, *step) {
+        if !is_typed(variables, *step) {
             return false;
         }
         rest = more;
@@ -126,20 +128,22 @@ fn are_steps(variables: &[Variable], steps: &[Step]) -> bool
     true
 }
 
-fn is_function(variables: &[Variable], function: &Function) -> bool
-    requires { Each IsVariable variables.now }
-    ensures { IsTrue result ↔ IsFunction variables.now function.now }
+#[tactic(auto, unfolding(crate::specs::Reading::FunctionTyped))]
+fn function_typed(variables: &[Variable], function: &Function) -> bool
+    requires { All (λ v. IsSize v.size) variables.now }
+    ensures { IsTrue result ↔ FunctionTyped variables.now function.now }
 {
-    is_name(&function.name) && are_steps(variables, function.steps.as_slice())
+    are_typed(variables, function.steps.as_slice())
 }
 
-fn are_functions(variables: &[Variable], functions: &[Function]) -> bool
-    requires { Each IsVariable variables.now }
-    ensures { IsTrue result ↔ Each (IsFunction variables.now) functions.now }
+#[tactic(auto, using(crate::proofs::Each::each))]
+fn functions_typed(variables: &[Variable], functions: &[Function]) -> bool
+    requires { All (λ v. IsSize v.size) variables.now }
+    ensures { IsTrue result ↔ All (FunctionTyped variables.now) functions.now }
 {
     let mut rest = functions;
     while let [function, more @ ..] = rest {
-        if !is_function(variables, function) {
+        if !function_typed(variables, function) {
             return false;
         }
         rest = more;
@@ -229,6 +233,7 @@ fn names_differ(variables: &[Variable], functions: &[Function]) -> bool
 }
 
 /// Whether the language has a contract.
+#[tactic(auto, unfolding(crate::specs::Reading::FunctionTyped))]
 pub fn is_good(contract: &Contract) -> bool
     ensures { IsTrue result ↔ IsGood contract.now }
 {
@@ -236,9 +241,8 @@ pub fn is_good(contract: &Contract) -> bool
     let functions = contract.functions.as_slice();
     variables.len() <= 48
         && functions.len() <= 64
-        && is_name(&contract.name)
-        && are_variables(variables)
         && are_few_steps(functions)
         && names_differ(variables, functions)
-        && are_functions(variables, functions)
+        && are_sized(variables)
+        && functions_typed(variables, functions)
 }

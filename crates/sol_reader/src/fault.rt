@@ -5,7 +5,7 @@ use chc_nums::NoMemory;
 /// Why no contract was read.
 #[derive(Clone, Copy, Debug, PartialEq, Eq)]
 pub enum ReadFault {
-    /// The text is not of the language.
+    /// The tree is that of no contract of the language.
     NotBuilt,
     /// Memory was wanted and not given.
     NoMemory,

@@ -1,18 +1,17 @@
-//! Reads the first language, exactly: a contract of `uintN` variables and of functions that are lists of statements,
-//! from the bytes of a file. `read` finds a contract exactly where some contract is spelled by the text, and then the
-//! only one. What the language is stands in `specs/Tokens.antt` and `specs/Language.antt`.
+//! The first language, exactly: a contract of `uintN` variables and of functions that are lists of statements, from the
+//! tree of a file. `read` finds a contract exactly where the tree is that of some contract, and then the only one. What
+//! the language is stands in `specs/Language.antt`.
 #![tactic(auto)]
 
 mod check;
+mod contract;
 mod fault;
-mod lexer;
-mod parser;
+mod lines;
 mod reader;
-mod steps;
-mod token;
-mod words;
+mod step;
 
 pub use fault::ReadFault;
+pub use lines::Lines;
 pub use reader::{one_contract, read};
 
 #[cfg(test)]

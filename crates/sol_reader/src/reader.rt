@@ -1,23 +1,27 @@
-// From a file to its contract.
+// From the tree of a file to its contract.
 
-ghost use Rattle.std.specs.Prelude.{◌≡◌, ◌≤◌, ℕ, List, length, IfOk, Err};
+ghost use Rattle.std.specs.Prelude.{◌≡◌, ◌≤◌, ℕ, List, length};
+ghost use Rattle.sol_tree.specs.declared.file.File.{File};
 ghost use Rattle.sol_first.specs.declared.contract.Contract.{Contract};
-ghost use Rattle.sol_reader.specs.Language.{IsSource, Says};
+ghost use Rattle.sol_reader.specs.Language.{IsFirst, Reads};
 
 use crate::check::is_good;
+use crate::contract::contract_of;
 use crate::fault::ReadFault;
-use crate::lexer::lex;
-use crate::parser::contract_of;
+use crate::lines::Lines;
 use sol_first::Contract;
+use sol_tree::File;
 use std::alloc::Global;
 
+/// The contract of a file: its text, of at most 262,144 bytes, and its tree. `NotBuilt` says that the tree is that of no
+/// contract of the language.
 #[tactic(auto, using(crate::proofs::Sources::sources))]
-fn contract_in(alloc: Global, text: &[u8]) -> Result<Contract, ReadFault>
+pub fn read(alloc: Global, text: &[u8], file: &File) -> Result<Contract, ReadFault>
     requires { length text.now ≤ 262144 }
-    ensures { Says result text.now }
+    ensures { Reads text.now file.now result }
 {
-    let tokens = lex(alloc, text)?;
-    let contract = contract_of(alloc, tokens.as_slice())?;
+    let lines = Lines::new(alloc, text)?;
+    let contract = contract_of(alloc, &lines, file)?;
     if is_good(&contract) {
         Ok(contract)
     } else {
@@ -25,18 +29,8 @@ fn contract_in(alloc: Global, text: &[u8]) -> Result<Contract, ReadFault>
     }
 }
 
-/// The contract of a file of at most 262,144 bytes. `NotBuilt` says that no contract of the language is spelled by
-/// the file.
-pub fn read(alloc: Global, text: &[u8]) -> Result<Contract, ReadFault>
-    requires { length text.now ≤ 262144 }
-    ensures found { IfOk result (λ c. IsSource text.now c) }
-    ensures none { result ≡ Err ReadFault.NotBuilt → (c : Contract) → IsSource text.now c → ⊥ }
-{
-    contract_in(alloc, text)
-}
-
-/// No text is of two contracts.
+/// No tree of a text is of two contracts.
 #[tactic(auto, using(crate::proofs::Sources::uniqueness))]
 pub fn one_contract()
-    ensures { (text : List ℕ) (c d : Contract) → IsSource text c → IsSource text d → c ≡ d }
+    ensures { (text : List ℕ) (f : File) (c d : Contract) → IsFirst text f c → IsFirst text f d → c ≡ d }
 {}

@@ -1,230 +1,177 @@
-// Files of the language, and files that nearly are.
+// A tree made by hand, and the lines of a text.
 
-use crate::words::RESERVED;
-use crate::{ReadFault, one_contract, read};
-use sol_first::{Contract, Order, Step};
+use crate::{Lines, ReadFault, read};
+use chc_nums::{List, Name, NoMemory, Ty};
+use sol_first::{Contract, Function, Order, Step};
+use sol_tree::{
+    AssignOp, BinaryOp, Block, ExprTree, File, Fun, FunMark, Identifier, Member, Simple, Stmt,
+    Type, Unit, Var,
+};
+use sqlite_items::{Boxed, Items};
 use std::alloc::Global;
 use std::test::Fail;
 
-fn contract_of(alloc: Global, text: &[u8]) -> Result<Option<Contract>, Fail> {
-    if 262144 < text.len() {
-        return Ok(None);
-    }
-    match read(alloc, text) {
-        Ok(contract) => Ok(Some(contract)),
-        Err(ReadFault::NotBuilt) => Ok(None),
-        Err(ReadFault::NoMemory) => Err(ReadFault::NoMemory)?,
-    }
-}
-
-fn is_source(alloc: Global, text: &[u8]) -> Result<bool, Fail> {
-    Ok(contract_of(alloc, text)?.is_some())
-}
+const TEXT: &[u8] =
+    b"contract C {\n uint8 x;\n function f() public {\n  assert(x < 7);\n  x = x + 1;\n }\n}\n";
 
 #[test]
-fn keeps_places(rt: HostRuntime) -> Result<(), Fail> {
-    let text =
-        b"contract C { uint96 x; function f() public { require(x < 10); x = x + 1; assert(x <= 10); } }";
-    let contract = contract_of(rt.alloc(), text)?.ok_or("refused")?;
-    assert_eq!(rt; contract.name.as_str(), "C");
-    let variable = contract.variables.get(0).ok_or("no variable")?;
-    assert_eq!(rt; variable.size, 12);
-    assert_eq!(rt; variable.name.as_str(), "x");
-    let function = contract.functions.get(0).ok_or("no function")?;
-    assert_eq!(rt; function.name.as_str(), "f");
-    let steps = [
-        Step::Require {
-            variable: 0,
-            order: Order::Less,
-            number: 10,
-        },
-        Step::Add {
-            line: 1,
-            col: 69,
-            to: 0,
-            from: 0,
-            number: 1,
-        },
-        Step::Assert {
-            line: 1,
-            col: 74,
-            variable: 0,
-            order: Order::LessEqual,
-            number: 10,
-        },
-    ];
-    assert!(rt; function.steps.as_slice() == steps.as_slice());
-    one_contract();
-    Ok(())
-}
-
-#[test]
-fn counts_lines(rt: HostRuntime) -> Result<(), Fail> {
-    let text = b"contract C {\n\tuint8 x; uint8 y;\r\n function f() public {\n\n  y=x\n-\x0c3;}}\n";
-    let contract = contract_of(rt.alloc(), text)?.ok_or("refused")?;
-    let function = contract.functions.get(0).ok_or("no function")?;
-    let step = function.steps.get(0).ok_or("no step")?;
-    let wanted = Step::Subtract {
-        line: 6,
-        col: 1,
-        to: 1,
-        from: 0,
-        number: 3,
-    };
-    assert!(rt; *step == wanted);
-    Ok(())
-}
-
-#[test]
-fn accepts(rt: HostRuntime) -> Result<(), Fail> {
-    let cases: [&str; 18] = [
-        "contract C { }",
-        "contract C{}",
-        "\n\tcontract\x0cC\r\n{\n}\n \n",
-        "contract $ { uint8 _a; uint8 $_9; uint8 a_rather_long_name_0123456789_$; }",
-        "contract error { uint8 hex; uint8 unicode; uint8 length; function from() public { } }",
-        "contract C { uint8 C; function f() public { C = 1; } }",
-        "contract C { function C() public { } }",
-        "contract C { uint8 x; function f() public { x = 255; x = 0; } }",
-        "contract C { uint16 x; function f() public { x = 65535; } }",
-        "contract C { uint32 x; function f() public { x = 4294967295; } }",
-        "contract C { uint64 x; function f() public { require(x >= 18446744073709551615); } }",
-        "contract C { uint88 x; function f() public { assert(x > 309485009821345068724781055); } }",
-        "contract C { uint96 x; function f() public { x = 79228162514264337593543950335; } }",
-        "contract C { uint8 x; uint16 y; function f() public { y = x; y = x + 255; y = y - 65535; } }",
-        "contract C { uint24 a; uint40 b; uint48 c; uint56 d; uint72 e; uint80 f; }",
-        "contract C { uint8 x; function f() public { x=x-1;x=x+1;require(x<=0);assert(x>=0); } }",
-        "contract C { uint8 x; function f() public { } function g() public { x = 1; } }",
-        "contract contracts { uint8 uint8x; uint8 fixedx; uint8 fixed8; uint8 bytes33; uint8 uint9; }",
-    ];
-    for case in cases {
-        assert!(rt; is_source(rt.alloc(), case.as_bytes())?, "{case}");
-    }
-    Ok(())
-}
-
-#[test]
-fn refuses(rt: HostRuntime) -> Result<(), Fail> {
-    let cases: [&str; 52] = [
-        "",
-        " ",
-        "contractC { }",
-        "contract { }",
-        "contract C { } contract D { }",
-        "contract C { } // the end",
-        "/* a contract */ contract C { }",
-        "pragma solidity ^0.8.0; contract C { }",
-        "contract C { };",
-        "contract C { } x",
-        "contract C { ",
-        "contract 1C { }",
-        "contract C\u{e9} { }",
-        "contract C { uint8 x }",
-        "contract C { uint8x; }",
-        "contract C { uint x; }",
-        "contract C { uint9 x; }",
-        "contract C { uint104 x; }",
-        "contract C { int8 x; }",
-        "contract C { uint08 x; }",
-        "contract C { uint8 x; uint8 x; }",
-        "contract C { uint8 x; function x() public { } }",
-        "contract C { function f() public { } function f() public { } }",
-        "contract C { function f() public { } uint8 x; }",
-        "contract C { function f() { } }",
-        "contract C { function f() external { } }",
-        "contract C { function f(uint8 x) public { } }",
-        "contract C { function f() public { } ",
-        "contract C { functionf() public { } }",
-        "contract C { uint8 x; function f() public { x = 256; } }",
-        "contract C { uint8 x; function f() public { require(x < 256); } }",
-        "contract C { uint8 x; uint16 y; function f() public { y = x + 256; } }",
-        "contract C { uint96 x; function f() public { x = 79228162514264337593543950336; } }",
-        "contract C { uint96 x; function f() public { x = 170141183460469231731687303715884105728; } }",
-        "contract C { uint8 x; function f() public { x = 01; } }",
-        "contract C { uint8 x; function f() public { x = 00; } }",
-        "contract C { uint8 x; function f() public { x = 0x1; } }",
-        "contract C { uint8 x; function f() public { x = 1_0; } }",
-        "contract C { uint8 x; function f() public { x = 1.0; } }",
-        "contract C { uint8 x; function f() public { x = -1; } }",
-        "contract C { uint8 x; function f() public { y = 1; } }",
-        "contract C { uint8 x; function f() public { x = y; } }",
-        "contract C { uint8 x; function f() public { C = 1; } }",
-        "contract C { uint8 x; uint16 y; function f() public { x = y; } }",
-        "contract C { uint8 x; uint16 y; function f() public { x = y + 1; } }",
-        "contract C { uint8 x; function f() public { require(x == 1); } }",
-        "contract C { uint8 x; function f() public { require(x < = 1); } }",
-        "contract C { uint8 x; function f() public { require(1 < x); } }",
-        "contract C { uint8 x; function f() public { require(x < x); } }",
-        "contract C { uint8 x; function f() public { x = 1 + x; } }",
-        "contract C { uint8 x; function f() public { x += 1; x++; } }",
-        "contract C { uint8 x; function f() public { x = x * 2; } }",
-    ];
-    for case in cases {
-        assert!(rt; !is_source(rt.alloc(), case.as_bytes())?, "{case}");
-    }
-    Ok(())
-}
-
-// Whether no word of a table can be a contract's name.
-fn are_refused(alloc: Global, words: &[&str]) -> Result<bool, Fail> {
-    for word in words {
-        let text = format!(in alloc; "contract {word} {{ }}")?;
-        if is_source(alloc, text.as_bytes())? {
-            return Ok(false);
-        }
-    }
-    Ok(true)
-}
-
-#[test]
-fn refuses_reserved_words(rt: HostRuntime) -> Result<(), Fail> {
-    assert!(rt; are_refused(rt.alloc(), &RESERVED)?);
-    assert!(rt; are_refused(rt.alloc(), &["fixed8x1", "ufixed128x18", "fixed00x0"])?);
-    Ok(())
-}
-
-// A contract of so many variables, so many functions, and so many steps in its first function and its last.
-fn sized(
-    alloc: Global,
-    variables: u32,
-    functions: u32,
-    first: u32,
-    last: u32,
-) -> Result<String, Fail> {
-    let mut text = String::from_str(alloc, "contract C { ")?;
-    for at in 0..variables {
-        text.push_str(format!(in alloc; "uint8 x{at}; ")?.as_str())?;
-    }
-    for at in 0..functions {
-        text.push_str(format!(in alloc; "function f{at}() public {{ ")?.as_str())?;
-        let steps = if at == 0 { first } else { last };
-        for _step in 0..steps {
-            text.push_str("x0=1;")?;
-        }
-        text.push_str("} ")?;
-    }
-    text.push_str("}")?;
-    Ok(text)
-}
-
-#[test]
-fn stops_at_limits(rt: HostRuntime) -> Result<(), Fail> {
-    let cases = [
-        (48, 64, 0, 0, true),
-        (49, 0, 0, 0, false),
-        (1, 65, 0, 0, false),
-        (1, 1, 4096, 0, true),
-        (1, 1, 4097, 0, false),
-        (1, 2, 4000, 96, true),
-        (1, 2, 4000, 97, false),
-    ];
-    for (variables, functions, first, last, wanted) in cases {
-        let text = sized(rt.alloc(), variables, functions, first, last)?;
+fn places(rt: HostRuntime) -> Result<(), Fail> {
+    let lines = Lines::new(rt.alloc(), b"ab\n\nc")?;
+    for (at, line, column) in [
+        (0, 1, 1),
+        (1, 1, 2),
+        (2, 1, 3),
+        (3, 2, 1),
+        (4, 3, 1),
+        (5, 3, 2),
+        (6, 3, 2),
+        (4_294_967_295, 3, 2),
+    ] {
         assert_eq!(rt;
-            is_source(rt.alloc(), text.as_bytes())?,
-            wanted,
-            "{variables} {functions} {first} {last}"
+            (lines.line(at), lines.column(at)),
+            (line, column),
+            "at {at}"
         );
     }
     Ok(())
+}
+
+fn identifier(alloc: Global, at: u32, text: &str) -> Result<Identifier, NoMemory> {
+    let name = Name::from_string(String::from_str(alloc, text)?);
+    Ok(Identifier { at, name })
+}
+
+// `x`
+fn named(alloc: Global, at: u32) -> Result<ExprTree, NoMemory> {
+    let Identifier { at, name } = identifier(alloc, at, "x")?;
+    Ok(ExprTree::Named { at, name })
+}
+
+// A comparison, a sum or a difference of `x` and a number.
+fn binary(alloc: Global, at: u32, operator: BinaryOp, value: i128) -> Result<ExprTree, NoMemory> {
+    let left = named(alloc, at)?;
+    let right = ExprTree::Number {
+        at: at.saturating_add(4),
+        value,
+        hex: false,
+        unit: None,
+    };
+    Ok(ExprTree::Binary {
+        at,
+        left: Boxed::new(alloc, left)?,
+        operator_at: at.saturating_add(2),
+        operator,
+        right: Boxed::new(alloc, right)?,
+    })
+}
+
+// The members of the text's contract, where the sum has this operator.
+fn members(alloc: Global, operator: BinaryOp) -> Result<List<Member>, NoMemory> {
+    let mut members = List::new(alloc);
+    members.push(Member::Var {
+        at: 14,
+        var: Var {
+            at: 14,
+            ty: Type::Elementary {
+                at: 14,
+                ty: Ty::Uint(1),
+            },
+            marks: List::new(alloc),
+            name: identifier(alloc, 20, "x")?,
+            initial: None,
+        },
+    })?;
+    let mut statements = Vec::new(alloc);
+    statements.push(Stmt::Assert {
+        at: 48,
+        condition: binary(alloc, 55, BinaryOp::Less, 7)?,
+    })?;
+    statements.push(Stmt::Simple {
+        at: 65,
+        simple: Simple::Assignment {
+            at: 65,
+            target: named(alloc, 65)?,
+            operator_at: 67,
+            operator: AssignOp::Assign,
+            value: binary(alloc, 69, operator, 1)?,
+        },
+    })?;
+    let mut marks = List::new(alloc);
+    marks.push(FunMark::Public { at: 37 })?;
+    members.push(Member::Fun {
+        at: 24,
+        fun: Fun {
+            at: 24,
+            name: identifier(alloc, 33, "f")?,
+            params: List::new(alloc),
+            marks,
+            returns: None,
+            body: Some(Block {
+                at: 44,
+                statements: Items::from_vec(statements),
+            }),
+        },
+    })?;
+    Ok(members)
+}
+
+fn file(alloc: Global, operator: BinaryOp) -> Result<File, NoMemory> {
+    let mut units = List::new(alloc);
+    units.push(Unit::Contract {
+        at: 0,
+        is_abstract: false,
+        name: identifier(alloc, 9, "C")?,
+        bases: List::new(alloc),
+        members: members(alloc, operator)?,
+    })?;
+    Ok(File { at: 0, units })
+}
+
+fn contract(alloc: Global, operator: BinaryOp) -> Result<Contract, ReadFault> {
+    let file = file(alloc, operator)?;
+    read(alloc, TEXT, &file)
+}
+
+// The steps of the text's function.
+const STEPS: [Step; 2] = [
+    Step::Assert {
+        line: 4,
+        col: 3,
+        variable: 0,
+        order: Order::Less,
+        number: 7,
+    },
+    Step::Add {
+        line: 5,
+        col: 9,
+        to: 0,
+        from: 0,
+        number: 1,
+    },
+];
+
+fn has_the_steps(functions: &[Function]) -> bool {
+    match functions {
+        [function] => function.name.as_str() == "f"
+            && function.steps.as_slice() == STEPS.as_slice(),
+        _ => false,
+    }
+}
+
+fn is_the_contract(contract: &Contract) -> bool {
+    contract.name.as_str() == "C"
+        && contract.variables.len() == 1
+        && has_the_steps(contract.functions.as_slice())
+}
+
+#[test]
+fn a_contract_is_read(rt: HostRuntime) {
+    let contract = contract(rt.alloc(), BinaryOp::Add).expect(&rt, "of the language");
+    assert!(rt; is_the_contract(&contract));
+}
+
+#[test]
+fn a_product_is_refused(rt: HostRuntime) {
+    let fault = contract(rt.alloc(), BinaryOp::Multiply).err();
+    assert_eq!(rt; fault, Some(ReadFault::NotBuilt));
 }

@@ -35,7 +35,7 @@ fn both_top_calls_report(rt: HostRuntime) -> Result<(), Fail> {
 }
 
 // Each contract is followed by its report.
-const REPORTS: [(&str, &str, Status); 16] = [
+const REPORTS: [(&str, &str, Status); 17] = [
     (
         "contract C { uint96 x; function f() public { x = 5; } function g() public { assert(x <= 5); } }",
         "1:77 assert unknown templates point pool point\ntargets 1 safe 0 unsafe 0 unknown 1\n",
@@ -114,6 +114,11 @@ const REPORTS: [(&str, &str, Status); 16] = [
     (
         "contract C { uint8 x; function f() public { require(x > 5); require(x < 5); assert(x > 9); } }",
         "1:77 assert safe\ntargets 1 safe 1 unsafe 0 unknown 0\n",
+        Status::Good,
+    ),
+    (
+        "pragma solidity ^0.8.0; // the first\ncontract C { uint8 x; /* none */ function f() public { require(x < 0x0A); x = x + 1e1; } }",
+        "2:81 overflow safe\ntargets 1 safe 1 unsafe 0 unknown 0\n",
         Status::Good,
     ),
 ];
