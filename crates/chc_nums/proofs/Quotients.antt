@@ -1,5 +1,5 @@
 -- Quotients and remainders.
-use Rattle.std.proofs.Common.{◌≢◌, zero, ◌-◌, ◌*◌, ◌∙◌, ◌≡◌, ℕ, ◌<◌, ◌≤◌, ◌^◌, ◌%◌, suc, pos, ◌≤ℤ◌, neg_ℤ, Option, Some, None, true, false, arith, refl, ap}
+use Rattle.std.proofs.Common.{◌≢◌, zero, ◌-◌, ◌*◌, ◌∙◌, ◌≡◌, ℕ, ◌<◌, ◌≤◌, ◌^◌, ◌%◌, suc, pos, ◌≤ℤ◌, ◌+ℤ◌, ◌*ℤ◌, neg_ℤ, Option, Some, None, true, false, arith, refl, ap}
 use Rattle.std.proofs.Math.Nat.{div-le_self, mod-le, div-one}
 use Rattle.std.proofs.Math.Pow.{pow_mono}
 use lib.IntN.{ℤ, negsuc}
@@ -13,9 +13,9 @@ use Rattle.chc_nums.specs.declared.typed.Ty.{Ty}
 use Rattle.chc_nums.specs.declared.typed.Num.TheVariants as num
 use Rattle.chc_nums.specs.declared.typed.Ty.TheVariants as ty
 use Rattle.chc_nums.specs.declared.typed.Op.TheVariants as op
-use Rattle.chc_nums.specs.Types.{IsInteger, IsSize, InRange, least, placed, by, judged, Truncated}
+use Rattle.chc_nums.specs.Types.{IsType, IsSize, least, placed, by, judged, Truncated}
 use Rattle.chc_nums.proofs.Fits.{fits_from}
-use Rattle.chc_nums.proofs.Ranges.{small}
+use Rattle.chc_nums.proofs.Ranges.{least-bound, greatest-bound, greatest-nonneg}
 
 fits-true : (z : ℤ) → FitsSigned w128 z → fits_128 z ≡ true
 unfolding fits_128
@@ -24,6 +24,10 @@ fits-true z f = grind (arith, ints)
 nonzero : (b : ℤ) → FitsSigned w128 b → int_eq b (pos 0) ≡ false → 0 < cast_unsigned w128 b
 nonzero (pos n) f e = grind (arith, ints)
 nonzero (negsuc n) f e = let h : n < 2 ^ 127 = f.sfits in omega arith
+
+nonzero-abs : (b : ℤ) → int_eq b (pos 0) ≡ false → 0 < unsigned_abs b
+nonzero-abs (pos n) e = grind (arith, ints)
+nonzero-abs (negsuc n) e = omega arith
 
 zero-bits : (b : ℤ) → 0 < cast_unsigned w128 b → int_eq b (pos 0) ≡ false
 zero-bits (pos n) h = grind (arith, ints)
@@ -42,16 +46,37 @@ quotient-small (pos a) (negsuc b) n p q = (omega (arith, ints, div-le_self a (su
 quotient-small (negsuc a) (pos b) n p q = (omega (arith, ints, div-le_self (suc a) b), omega (arith, ints, div-le_self (suc a) b))
 quotient-small (negsuc a) (negsuc b) n p q = (omega (arith, ints, div-le_self (suc a) (suc b)), omega (arith, ints, div-le_self (suc a) (suc b)))
 
-pub quotient-fits : (t : Ty) (a b : ℤ) → IsInteger t → InRange t a → fits_128 (int_div a b) ≡ true
-quotient-fits t a b i ra =
-    let s = small t a i ra in
-    let q = quotient-small a b (2 ^ 96) (omega (arith, ints, s)) (omega (arith, ints, s)) in
-    fits-true (int_div a b) (omega (arith, ints, q))
+-- where a number that is not 0 divides another and the quotient leaves 128 bits, it lies above them and nothing remains
+big-quotient : (a b : ℤ) → FitsSigned w128 a → fits_128 (int_div a b) ≡ false → int_div a b ≡ pos (2 ^ 127)
+unfolding fits_128
+big-quotient a b f e =
+    let q = quotient-small a b (2 ^ 127) (omega (arith, ints)) (omega (arith, ints)) in
+    grind (arith, ints)
 
--- so a number of the type is divided unless the divisor is 0
-pub divided-none : (t : Ty) (a b x : ℤ) → IsInteger t → InRange t a → divided a b x ≡ None → num.ByZero ≡ by t b x
+divided-large : (a b x : ℤ) → divided a b x ≡ None → int_eq b (pos 0) ≡ false → fits_128 (int_div a b) ≡ false
 unfolding divided
-divided-none t a b x i ra e = grind (arith, quotient-fits t a b i ra)
+divided-large a b x e n = grind arith
+
+pub divided-over : (t : Ty) (a b x : ℤ) → IsType t → FitsSigned w128 a → divided a b x ≡ None → int_eq b (pos 0) ≡ false → num.Over ≡ placed t (int_div a b)
+unfolding placed
+divided-over t a b x h f e n =
+    let q = big-quotient a b f (divided-large a b x e n) in
+    grind (arith, ints, greatest-bound t h, least-bound t h)
+
+no-rest : (a b r : ℤ) → FitsSigned w128 a → (pos (2 ^ 127) *ℤ b) +ℤ r ≡ a → unsigned_abs r < unsigned_abs b → r ≡ pos 0
+no-rest a (pos b) r f s h = omega (arith, ints)
+no-rest a (negsuc b) r f s h = omega (arith, ints)
+
+pub divided-rest : (a b x : ℤ) → FitsSigned w128 a → divided a b x ≡ None → int_eq b (pos 0) ≡ false → int_rem a b ≡ pos 0
+divided-rest a b x f e n =
+    let q : int_div a b ≡ pos (2 ^ 127) = big-quotient a b f (divided-large a b x e n) in
+    let s : (pos (2 ^ 127) *ℤ b) +ℤ int_rem a b ≡ a = rw q at (quot-rem a b) in
+    no-rest a b (int_rem a b) f s (rem_below a b (nonzero-abs b n))
+
+-- 0 is a number of each type
+pub placed-zero : (t : Ty) → IsType t → num.Value (pos 0) ≡ placed t (pos 0)
+unfolding placed
+placed-zero t h = grind (arith, ints, least-bound t h, greatest-nonneg t h)
 
 pub divided-some : (t : Ty) (a b x y : ℤ) → divided a b x ≡ Some y → placed t y ≡ by t b x
 unfolding divided

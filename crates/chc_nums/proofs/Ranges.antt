@@ -1,14 +1,16 @@
 -- How large the numbers of a type are.
-use Rattle.std.proofs.Common.{◌≡◌, ◌-◌, ◌*◌, ◌^◌, ◌≤◌, pos, ◌+ℤ◌, ◌-ℤ◌, ◌*ℤ◌, ◌≤ℤ◌, ◌<ℤ◌, neg_ℤ, arith, None, Some}
+use Rattle.std.proofs.Common.{◌≡◌, ◌-◌, ◌*◌, ◌^◌, ◌≤◌, pos, ◌+ℤ◌, ◌-ℤ◌, ◌*ℤ◌, ◌≤ℤ◌, ◌<ℤ◌, neg_ℤ, arith, None, true, false}
 use lib.IntN.{ℤ}
 use lib.Signed.{lt_z}
 use Rattle.std.proofs.lemmas.Int.{ints}
 use Rattle.std.proofs.Math.Pow.{pow_mono}
 use Rattle.chc_nums.specs.declared.typed.Ty.{Ty}
 use Rattle.chc_nums.specs.declared.typed.Ty.TheVariants as ty
-use Rattle.chc_nums.specs.Types.{IsType, IsInteger, InRange, least, greatest, placed}
+use Rattle.chc_nums.specs.Types.{IsType, least, greatest, placed}
 use Rattle.chc_nums.specs.Wide.{in_128, fits_128}
-use Rattle.chc_nums.proofs.Fits.{in_128-yes, in_128-value}
+use Rattle.std.specs.Prelude.{FitsSigned}
+use Rattle.std.specs.Int.{w128}
+use Rattle.chc_nums.proofs.Fits.{in_128-value}
 use Rattle.chc_nums.specs.declared.typed.Num.TheVariants as num
 
 pub least-bound : (t : Ty) → IsType t → (neg_ℤ (pos (2 ^ 95)) ≤ℤ least t) × (least t ≤ℤ pos 0)
@@ -23,15 +25,11 @@ greatest-bound (ty.Uint s) h = let p : 2 ^ (8 * s) ≤ 2 ^ 96 = pow_mono {j = 96
 greatest-bound (ty.Int s) h = let p : 2 ^ (8 * s - 1) ≤ 2 ^ 95 = pow_mono {j = 95} (omega arith) in omega (arith, ints)
 greatest-bound ty.Addr h = omega (arith, ints)
 
-pub integer-type : (t : Ty) → IsInteger t → IsType t
-integer-type ty.Bool h = absurd h
-integer-type (ty.Uint s) h = h
-integer-type (ty.Int s) h = h
-integer-type ty.Addr h = absurd h
-
--- at most 96 bits and a sign
-pub small : (t : Ty) (z : ℤ) → IsInteger t → InRange t z → (neg_ℤ (pos (2 ^ 95)) ≤ℤ z) × (z <ℤ pos (2 ^ 96))
-small t z i r = (omega (arith, ints, least-bound t (integer-type t i)), omega (arith, ints, greatest-bound t (integer-type t i)))
+pub greatest-nonneg : (t : Ty) → IsType t → pos 0 ≤ℤ greatest t
+greatest-nonneg ty.Bool h = omega (arith, ints)
+greatest-nonneg (ty.Uint s) h = omega (arith, ints)
+greatest-nonneg (ty.Int s) h = omega (arith, ints)
+greatest-nonneg ty.Addr h = omega (arith, ints)
 
 -- factors of one sign have a product that is not negative, and others one that is not positive
 pub like-product : (a b : ℤ) → lt_z a (pos 0) ≡ lt_z b (pos 0) → pos 0 ≤ℤ (a *ℤ b)
@@ -49,14 +47,25 @@ pub far-under : (t : Ty) (z : ℤ) → IsType t → in_128 z ≡ None → z ≤�
 unfolding in_128 fits_128 placed
 far-under t z h e p = grind (arith, ints, least-bound t h, greatest-bound t h)
 
-pub sum-fits : (t : Ty) (a b : ℤ) → IsInteger t → InRange t a → InRange t b → in_128 (a +ℤ b) ≡ Some (a +ℤ b)
-sum-fits t a b i ra rb = in_128-yes (a +ℤ b) (omega (arith, ints, small t a i ra, small t b i rb))
+none-above : (z : ℤ) → in_128 z ≡ None → neg_ℤ (pos (2 ^ 127)) ≤ℤ z → pos 0 ≤ℤ z
+unfolding in_128 fits_128
+none-above z e h = grind (arith, ints)
 
-pub difference-fits : (t : Ty) (a b : ℤ) → IsInteger t → InRange t a → InRange t b → in_128 (a -ℤ b) ≡ Some (a -ℤ b)
-difference-fits t a b i ra rb = in_128-yes (a -ℤ b) (omega (arith, ints, small t a i ra, small t b i rb))
+none-below : (z : ℤ) → in_128 z ≡ None → z <ℤ pos (2 ^ 127) → z ≤ℤ pos 0
+unfolding in_128 fits_128
+none-below z e h = grind (arith, ints)
+
+-- a sum that leaves 128 bits lies on the side of its first operand, and so does a difference
+pub sum-over : (t : Ty) (a b : ℤ) → IsType t → FitsSigned w128 b → in_128 (a +ℤ b) ≡ None → lt_z a (pos 0) ≡ false → num.Over ≡ placed t (a +ℤ b)
+sum-over t a b h f e p = let q : pos 0 ≤ℤ (a +ℤ b) = none-above (a +ℤ b) e (grind (arith, ints)) in far-over t (a +ℤ b) h e q
+
+pub sum-under : (t : Ty) (a b : ℤ) → IsType t → FitsSigned w128 b → in_128 (a +ℤ b) ≡ None → lt_z a (pos 0) ≡ true → num.Under ≡ placed t (a +ℤ b)
+sum-under t a b h f e p = let q : (a +ℤ b) ≤ℤ pos 0 = none-below (a +ℤ b) e (grind (arith, ints)) in far-under t (a +ℤ b) h e q
+
+pub difference-over : (t : Ty) (a b : ℤ) → IsType t → FitsSigned w128 b → in_128 (a -ℤ b) ≡ None → lt_z a (pos 0) ≡ false → num.Over ≡ placed t (a -ℤ b)
+difference-over t a b h f e p = let q : pos 0 ≤ℤ (a -ℤ b) = none-above (a -ℤ b) e (grind (arith, ints)) in far-over t (a -ℤ b) h e q
+
+pub difference-under : (t : Ty) (a b : ℤ) → IsType t → FitsSigned w128 b → in_128 (a -ℤ b) ≡ None → lt_z a (pos 0) ≡ true → num.Under ≡ placed t (a -ℤ b)
+difference-under t a b h f e p = let q : (a -ℤ b) ≤ℤ pos 0 = none-below (a -ℤ b) e (grind (arith, ints)) in far-under t (a -ℤ b) h e q
 
 pub ruleset products = (like-product, unlike-product, far-over, far-under, in_128-value)
-
-pub ruleset ranges = (integer-type, sum-fits, difference-fits)
-
-pub ruleset types = (integer-type)

@@ -1,5 +1,5 @@
 -- Numbers of 128 bits with a sign, and results that stop where they leave them.
-use Rattle.std.specs.Prelude.{ℕ, Option, Some, None, pos, ◌+ℤ◌, ◌*ℤ◌, neg_ℤ, Bool, not, ◌&&◌, if◌then◌else◌, ◌^◌, int_div}
+use Rattle.std.specs.Prelude.{Option, Some, None, pos, ◌+ℤ◌, ◌*ℤ◌, neg_ℤ, Bool, not, ◌&&◌, if◌then◌else◌, ◌^◌, int_div}
 use lib.IntN.{ℤ}
 use lib.Signed.{lt_z}
 use Rattle.std.specs.Ordering.{int_eq}

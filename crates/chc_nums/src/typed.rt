@@ -2,10 +2,11 @@
 
 ghost use Rattle.std.specs.Prelude.{◌≡◌, ◌<◌, ◌^◌, pos, ◌≤ℤ◌, ◌*ℤ◌, ◌+ℤ◌, ◌-ℤ◌, neg_ℤ, ℕ, ◌≢◌, int_div, int_rem};
 ghost use lib.IntN.{ℤ, negsuc};
+ghost use Rattle.std.specs.Ordering.{int_eq};
 ghost use Rattle.chc_nums.specs.declared.typed.Op.TheVariants as op;
 ghost use Rattle.chc_nums.specs.declared.typed.Ty.TheVariants as ty;
 ghost use Rattle.chc_nums.specs.declared.typed.Num.TheVariants as num;
-ghost use Rattle.chc_nums.specs.Types.{IsType, IsInteger, InRange, least, greatest, judged, placed, IsSize, Truncated};
+ghost use Rattle.chc_nums.specs.Types.{IsType, least, greatest, judged, placed, IsSize, Truncated};
 
 use crate::wide::{difference, product, quotient, remainder, sum};
 
@@ -52,18 +53,17 @@ pub fn range(ty: Ty) -> (i128, i128)
     }
 }
 
-fn power(bits: u8) -> i128
+/// A power of 2.
+pub fn power(bits: u8) -> i128
     requires { bits < 127 }
     ensures { result ≡ pos (2 ^ bits) }
 {
     1 << bits
 }
 
-/// An operation on two numbers of an integer type, checked against its range.
+/// An operation on two numbers, checked against the range of a type.
 pub fn checked_op(op: Op, ty: Ty, a: i128, b: i128) -> Num
-    requires integer { IsInteger ty }
-    requires a { InRange ty a }
-    requires b { InRange ty b }
+    requires { IsType ty }
     ensures { result ≡ judged op ty a b }
 {
     match op {
@@ -109,11 +109,9 @@ fn placed_product(ty: Ty, a: i128, b: i128) -> Num
     }
 }
 
-#[tactic(auto, using(crate::proofs::Ranges::ranges))]
+// A sum that leaves 128 bits leaves the type on the side of either operand.
 fn placed_sum(ty: Ty, a: i128, b: i128) -> Num
-    requires integer { IsInteger ty }
-    requires a { InRange ty a }
-    requires b { InRange ty b }
+    requires { IsType ty }
     ensures { result ≡ placed ty (a +ℤ b) }
 {
     match sum(a, b) {
@@ -122,11 +120,9 @@ fn placed_sum(ty: Ty, a: i128, b: i128) -> Num
     }
 }
 
-#[tactic(auto, using(crate::proofs::Ranges::ranges))]
+// A difference that leaves 128 bits leaves the type on the side of its first operand.
 fn placed_difference(ty: Ty, a: i128, b: i128) -> Num
-    requires integer { IsInteger ty }
-    requires a { InRange ty a }
-    requires b { InRange ty b }
+    requires { IsType ty }
     ensures { result ≡ placed ty (a -ℤ b) }
 {
     match difference(a, b) {
@@ -135,30 +131,36 @@ fn placed_difference(ty: Ty, a: i128, b: i128) -> Num
     }
 }
 
-#[tactic(auto, using(crate::proofs::Ranges::types))]
+// Only the least number by -1 has a quotient that leaves 128 bits.
 fn placed_quotient(ty: Ty, a: i128, b: i128) -> Num
-    requires integer { IsInteger ty }
-    requires a { InRange ty a }
-    requires b { InRange ty b }
+    requires { IsType ty }
     ensures { result ≡ judged op.Div ty a b }
 {
     match quotient(a, b) {
         Some(z) => placed(ty, z),
-        None => Num::ByZero,
+        None => if is_zero(b) { Num::ByZero } else { Num::Over },
     }
 }
 
-#[tactic(auto, using(crate::proofs::Ranges::types))]
+// Where a quotient leaves 128 bits, nothing remains.
 fn placed_remainder(ty: Ty, a: i128, b: i128) -> Num
-    requires integer { IsInteger ty }
-    requires a { InRange ty a }
-    requires b { InRange ty b }
+    requires { IsType ty }
     ensures { result ≡ judged op.Rem ty a b }
 {
     match remainder(a, b) {
         Some(z) => placed(ty, z),
-        None => Num::ByZero,
+        None => if is_zero(b) {
+            Num::ByZero
+        } else {
+            Num::Value(0)
+        },
     }
+}
+
+fn is_zero(n: i128) -> bool
+    ensures { result ≡ int_eq n (pos 0) }
+{
+    n == 0
 }
 
 /// How a quotient and what it leaves are rounded, and which of them leave a signed type.

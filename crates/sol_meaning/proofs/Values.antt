@@ -1,13 +1,13 @@
 -- The value of each kind of expression.
-use Rattle.std.proofs.Common.{◌≡◌, ◌∙◌, sym, ap, ℕ, true}
+use Rattle.std.proofs.Common.{◌≡◌, ◌∙◌, sym, ap, ℕ, true, false, List}
 use lib.IntN.{ℤ}
 use Rattle.chc_nums.specs.declared.Ty.{Ty}
 use Rattle.chc_nums.specs.declared.Op.{Op}
 use Rattle.chc_nums.specs.Types.{judged}
 use Rattle.sol_core.specs.declared.Cmp.{Cmp}
 use Rattle.sol_core.specs.declared.Marks.{Marks}
-use Rattle.sol_core.specs.declared.Expr.{Expr, Num, Scalar, Arith, Compare, Cast}
-use Rattle.sol_core.specs.declared.Expr.TheVariants.{rolls-Num, rolls-Scalar, rolls-Arith, rolls-Compare, rolls-Cast}
+use Rattle.sol_core.specs.declared.Expr.{Expr, Num, Scalar, Arith, Compare, Cast, Local, MapAt, ElemAt, Len, Sender, Not, Both, Either, Pick, Call}
+use Rattle.sol_core.specs.declared.Expr.TheVariants.{rolls-Num, rolls-Scalar, rolls-Arith, rolls-Compare, rolls-Cast, rolls-Local, rolls-MapAt, rolls-ElemAt, rolls-Len, rolls-Sender, rolls-Not, rolls-Both, rolls-Either, rolls-Pick, rolls-Call}
 use Rattle.sol_core.specs.declared.Expr.TheOpen.{Expr-F}
 use Rattle.sol_core.specs.declared.Expr.TheFolds.{fold-Expr, fold-roll-Expr}
 use Rattle.sol_meaning.specs.declared.world.World.{World}
@@ -35,4 +35,49 @@ pub eval-Cast : (s : Ty) (t : Ty) (a : Expr) (w : World) → eval (Cast s t a) w
 unfolding eval value_step
 eval-Cast s t a w = ap (λ (z : Expr). fold-Expr Valued value_step z w) (sym (rolls-Cast s t a)) ∙ ap (λ (f : Valued). f w) (fold-roll-Expr Valued value_step (Expr-F.Cast s t a))
 
-pub ruleset values = (eval-Num, eval-Scalar, eval-Arith, eval-Compare, eval-Cast)
+-- the forms that have no meaning yet
+pub eval-Wrapping : (o : Op) (t : Ty) (a b : Expr) (m : Marks) (w : World) → eval (Arith o t false a b m) w ≡ (got.Reverted, w)
+unfolding eval value_step
+eval-Wrapping o t a b m w = ap (λ (z : Expr). fold-Expr Valued value_step z w) (sym (rolls-Arith o t false a b m)) ∙ ap (λ (f : Valued). f w) (fold-roll-Expr Valued value_step (Expr-F.Arith o t false a b m))
+
+pub eval-Local : (i : ℕ) (w : World) → eval (Local i) w ≡ (got.Reverted, w)
+unfolding eval value_step
+eval-Local i w = ap (λ (z : Expr). fold-Expr Valued value_step z w) (sym (rolls-Local i)) ∙ ap (λ (f : Valued). f w) (fold-roll-Expr Valued value_step (Expr-F.Local i))
+
+pub eval-MapAt : (m : ℕ) (es : List Expr) (w : World) → eval (MapAt m es) w ≡ (got.Reverted, w)
+unfolding eval value_step
+eval-MapAt m es w = ap (λ (z : Expr). fold-Expr Valued value_step z w) (sym (rolls-MapAt m es)) ∙ ap (λ (f : Valued). f w) (fold-roll-Expr Valued value_step (Expr-F.MapAt m es))
+
+pub eval-ElemAt : (a : ℕ) (e : Expr) (site : ℕ) (w : World) → eval (ElemAt a e site) w ≡ (got.Reverted, w)
+unfolding eval value_step
+eval-ElemAt a e site w = ap (λ (z : Expr). fold-Expr Valued value_step z w) (sym (rolls-ElemAt a e site)) ∙ ap (λ (f : Valued). f w) (fold-roll-Expr Valued value_step (Expr-F.ElemAt a e site))
+
+pub eval-Len : (a : ℕ) (w : World) → eval (Len a) w ≡ (got.Reverted, w)
+unfolding eval value_step
+eval-Len a w = ap (λ (z : Expr). fold-Expr Valued value_step z w) (sym (rolls-Len a)) ∙ ap (λ (f : Valued). f w) (fold-roll-Expr Valued value_step (Expr-F.Len a))
+
+pub eval-Sender : (w : World) → eval Sender w ≡ (got.Reverted, w)
+unfolding eval value_step
+eval-Sender w = ap (λ (z : Expr). fold-Expr Valued value_step z w) (sym rolls-Sender) ∙ ap (λ (f : Valued). f w) (fold-roll-Expr Valued value_step Expr-F.Sender)
+
+pub eval-Not : (a : Expr) (w : World) → eval (Not a) w ≡ (got.Reverted, w)
+unfolding eval value_step
+eval-Not a w = ap (λ (z : Expr). fold-Expr Valued value_step z w) (sym (rolls-Not a)) ∙ ap (λ (f : Valued). f w) (fold-roll-Expr Valued value_step (Expr-F.Not a))
+
+pub eval-Both : (a : Expr) (b : Expr) (w : World) → eval (Both a b) w ≡ (got.Reverted, w)
+unfolding eval value_step
+eval-Both a b w = ap (λ (z : Expr). fold-Expr Valued value_step z w) (sym (rolls-Both a b)) ∙ ap (λ (f : Valued). f w) (fold-roll-Expr Valued value_step (Expr-F.Both a b))
+
+pub eval-Either : (a : Expr) (b : Expr) (w : World) → eval (Either a b) w ≡ (got.Reverted, w)
+unfolding eval value_step
+eval-Either a b w = ap (λ (z : Expr). fold-Expr Valued value_step z w) (sym (rolls-Either a b)) ∙ ap (λ (f : Valued). f w) (fold-roll-Expr Valued value_step (Expr-F.Either a b))
+
+pub eval-Pick : (a : Expr) (b : Expr) (c : Expr) (w : World) → eval (Pick a b c) w ≡ (got.Reverted, w)
+unfolding eval value_step
+eval-Pick a b c w = ap (λ (z : Expr). fold-Expr Valued value_step z w) (sym (rolls-Pick a b c)) ∙ ap (λ (f : Valued). f w) (fold-roll-Expr Valued value_step (Expr-F.Pick a b c))
+
+pub eval-Call : (g : ℕ) (es : List Expr) (w : World) → eval (Call g es) w ≡ (got.Reverted, w)
+unfolding eval value_step
+eval-Call g es w = ap (λ (z : Expr). fold-Expr Valued value_step z w) (sym (rolls-Call g es)) ∙ ap (λ (f : Valued). f w) (fold-roll-Expr Valued value_step (Expr-F.Call g es))
+
+pub ruleset values = (eval-Num, eval-Scalar, eval-Arith, eval-Compare, eval-Cast, eval-Wrapping, eval-Local, eval-MapAt, eval-ElemAt, eval-Len, eval-Sender, eval-Not, eval-Both, eval-Either, eval-Pick, eval-Call)

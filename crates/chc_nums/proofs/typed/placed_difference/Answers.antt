@@ -1,11 +1,10 @@
-use Rattle.std.proofs.Common.{◌≡◌, ◌∙◌, ap, sym, rules, ◌-ℤ◌, Some}
+use Rattle.std.proofs.Common.{◌∙◌, ap, sym, rules, ◌-ℤ◌}
 use Rattle.std.specs.Prelude.{FitsSigned}
 use Rattle.std.specs.Int.{w128}
 use Rattle.std.proofs.lemmas.Int.{to_z-of_z}
 use Rattle.chc_nums.specs.Types.{placed}
-use Rattle.chc_nums.specs.Wide.{in_128}
 use Rattle.chc_nums.proofs.Fits.{in_128-value}
-use Rattle.chc_nums.proofs.Ranges.{difference-fits}
+use Rattle.chc_nums.proofs.Ranges.{difference-over, difference-under}
 use Rattle.chc_nums.proofs.typed.placed_difference.Goals as goal
 
 pub returns-in-Some : goal.returns-in-Some
@@ -22,13 +21,11 @@ returns-then-a-lt0 c =
     let fa : FitsSigned w128 c.args.a = c.ranges.a in
     let fb : FitsSigned w128 c.args.b = c.ranges.b in
     let e = simp to_z-of_z at c.in-None.ensures in
-    let s : in_128 (c.args.a -ℤ c.args.b) ≡ Some (c.args.a -ℤ c.args.b) = difference-fits c.args.ty c.args.a c.args.b c.requires.integer c.requires.a c.requires.b in
-    absurd (cc (e, s))
+    difference-under c.args.ty c.args.a c.args.b c.requires fb (sym e) (simp to_z-of_z at c.if-a-lt0.true)
 
 pub returns-else-a-lt0 : goal.returns-else-a-lt0
 returns-else-a-lt0 c =
     let fa : FitsSigned w128 c.args.a = c.ranges.a in
     let fb : FitsSigned w128 c.args.b = c.ranges.b in
     let e = simp to_z-of_z at c.in-None.ensures in
-    let s : in_128 (c.args.a -ℤ c.args.b) ≡ Some (c.args.a -ℤ c.args.b) = difference-fits c.args.ty c.args.a c.args.b c.requires.integer c.requires.a c.requires.b in
-    absurd (cc (e, s))
+    difference-over c.args.ty c.args.a c.args.b c.requires fb (sym e) (simp to_z-of_z at c.if-a-lt0.false)

@@ -1,0 +1,4 @@
+pub mod Checked
+pub mod Filled
+pub mod Halves
+pub mod Restored

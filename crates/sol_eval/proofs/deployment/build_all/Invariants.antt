@@ -1,0 +1,7 @@
+use Rattle.std.proofs.Common.{◌≡◌, map, drop}
+use Rattle.sol_meaning.specs.Exec.{all_of}
+use Rattle.sol_meaning.specs.Run.{built}
+use Rattle.sol_eval.proofs.deployment.build_all.Given as goal
+
+abbrev pub invariant-loop-b : goal.invariant-loop-b
+invariant-loop-b l = all_of (map (built l.p l.given) (drop l.b-index l.builds)) l.w ≡ all_of (map (built l.p l.given) l.fn.builds) l.fn.w

@@ -1,0 +1,10 @@
+use Rattle.std.proofs.Common.{◌≡◌, drop}
+use Rattle.sol_meaning.specs.Exec.{exec_all}
+use Rattle.sol_eval.specs.Ran.{Kept}
+use Rattle.sol_eval.proofs.statements.exec_all.Given as goal
+
+abbrev pub invariant-loop-s : goal.invariant-loop-s
+invariant-loop-s l = record {
+  ran : exec_all (drop l.s-index l.ss) l.w ≡ exec_all l.fn.ss l.fn.w;
+  kept : Kept l.fn.w.state l.w.state;
+}

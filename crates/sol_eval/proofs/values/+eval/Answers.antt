@@ -1,0 +1,23 @@
+use Rattle.std.proofs.Common.{◌≡◌, sym, subst, ◌∙◌, ap, rules}
+use Rattle.std.specs.Prelude.{FitsSigned}
+use Rattle.std.specs.Int.{w128}
+use Rattle.std.proofs.lemmas.Int.{to_z-of_z}
+use Rattle.sol_core.specs.declared.Expr.{Expr}
+use Rattle.sol_meaning.specs.declared.world.World.{World}
+use Rattle.sol_meaning.specs.declared.world.Got.{Got}
+use Rattle.sol_meaning.specs.declared.world.Got.TheVariants as got
+use Rattle.sol_meaning.specs.Eval.{eval}
+use Rattle.sol_eval.specs.Ran.{Ran}
+use Rattle.sol_eval.proofs.Checked.{eval-first}
+use Rattle.sol_eval.proofs.values.+eval.Goals as goal
+
+pub eval-returns-in-Value-clause-ran : goal.eval-returns-in-Value-clause-ran
+eval-returns-in-Value-clause-ran t c =
+    let first : eval c.in-Arith.a c.args.w.now ≡ (got.Value c.in-Value.x, c.eval.new.w) =
+    ap (λ (e : Expr). eval e c.args.w.now) (sym c.get.ensures) ∙ c.in_ok-x-in-Arith.ensures.ran ∙ ap (λ (g : Got). (g, c.eval.new.w)) c.in-Value.is in
+    let all = ap (λ (e : Expr). eval e c.args.w.now) c.in-Arith.is ∙ eval-first c.in-Arith.op c.in-Arith.ty c.in-Arith.checked c.in-Arith.a c.in-Arith.b c.in-Arith.marks c.args.w.now c.eval.new.w c.in-Value.x c.if-not-checked.false first in
+    let fits : FitsSigned w128 c.in-Value.x = search rules in
+    let exact = simp to_z-of_z at c.arith_to.ensures.ran in
+    let second = rw c.get-in-Value.ensures at exact in
+    let P : Got × World → Type 0 = λ o. Ran o c.arith_to.result c.arith_to.new.w in
+    subst P (sym all) second

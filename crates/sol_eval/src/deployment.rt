@@ -1,0 +1,132 @@
+// What a deployment does.
+
+ghost use Rattle.std.specs.Prelude.{◌≡◌, IfOk, map, pos, [], List};
+ghost use lib.IntN.{ℤ};
+ghost use Rattle.sol_meaning.specs.Exec.{all_of};
+ghost use Rattle.sol_meaning.specs.Run.{zero_state, build_arg, constructed, built, fresh};
+ghost use Rattle.sol_eval.specs.Ran.{Ran};
+
+use crate::calls::call;
+use crate::numbers::number_at;
+use crate::statements::exec_all;
+use chc_nums::{List, NoMemory, Ty};
+use sol_core::{Build, BuildArg, Program, Script, State};
+use sol_meaning::{End, World};
+use std::alloc::Global;
+
+/// The world at a deployment.
+pub fn fresh(alloc: Global, p: &Program, s: &Script, turns: u32) -> Result<World, NoMemory>
+    ensures { IfOk result (λ w. w ≡ fresh p.now s.now turns) }
+{
+    let state = zero_state(alloc, p)?;
+    Ok(World {
+        state,
+        locals: List::new(alloc),
+        sender: s.sender,
+        turns,
+        hits: List::new(alloc),
+    })
+}
+
+fn zero_state(alloc: Global, p: &Program) -> Result<State, NoMemory>
+    ensures { IfOk result (λ state. state ≡ zero_state p.now) }
+{
+    let scalars = zeros(alloc, p.scalars.as_slice())?;
+    let arrays = empty_arrays(alloc, p.arrays.as_slice())?;
+    Ok(State {
+        scalars,
+        maps: List::new(alloc),
+        arrays,
+    })
+}
+
+fn zeros(alloc: Global, types: &[Ty]) -> Result<List<i128>, NoMemory>
+    ensures { IfOk result (λ all. all ≡ map (λ t. pos 0) types.now) }
+{
+    let mut all = List::new(alloc);
+    for _type in types {
+        all.push(0)?;
+    }
+    Ok(all)
+}
+
+fn empty_arrays(alloc: Global, types: &[Ty]) -> Result<List<List<i128>>, NoMemory>
+    ensures { IfOk result (λ all. all ≡ map (λ t. []) types.now) }
+{
+    let mut all = List::new(alloc);
+    for _type in types {
+        all.push(List::new(alloc))?;
+    }
+    Ok(all)
+}
+
+/// Each contract's initialisers and constructor, contract by contract.
+pub fn build_all(
+    alloc: Global,
+    p: &Program,
+    given: &[i128],
+    builds: &[Build],
+    w: &mut World,
+) -> Result<End, NoMemory>
+    ensures { Ran (all_of (map (built p.now given.now) builds.now) w.old) result w.new }
+{
+    for b in builds {
+        match build(alloc, p, given, b, w)? {
+            End::Normal => {}
+            other => return Ok(other),
+        }
+    }
+    Ok(End::Normal)
+}
+
+fn build(
+    alloc: Global,
+    p: &Program,
+    given: &[i128],
+    b: &Build,
+    w: &mut World,
+) -> Result<End, NoMemory>
+    ensures { Ran (built p.now given.now b.now w.old) result w.new }
+{
+    match exec_all(b.inits.as_slice(), w)? {
+        End::Normal => construct(alloc, p, given, b, w),
+        other => Ok(other),
+    }
+}
+
+fn construct(
+    alloc: Global,
+    p: &Program,
+    given: &[i128],
+    b: &Build,
+    w: &mut World,
+) -> Result<End, NoMemory>
+    ensures { Ran (constructed p.now given.now b.now.fun b.now.args w.old) result w.new }
+{
+    match b.fun {
+        None => Ok(End::Normal),
+        Some(f) => {
+            let args = build_args(alloc, given, b.args.as_slice())?;
+            call(alloc, p, f, args.as_slice(), w)
+        }
+    }
+}
+
+fn build_args(alloc: Global, given: &[i128], args: &[BuildArg]) -> Result<List<i128>, NoMemory>
+    ensures { IfOk result (λ all. all ≡ map (build_arg given.now) args.now) }
+{
+    let mut all = List::new(alloc);
+    for arg in args {
+        all.push(build_arg(given, *arg))?;
+    }
+    Ok(all)
+}
+
+fn build_arg(given: &[i128], arg: BuildArg) -> i128
+    ensures { result ≡ build_arg given.now arg }
+{
+    match arg {
+        BuildArg::Num(n) => n,
+        BuildArg::Param(i) => number_at(given, i),
+    }
+}

@@ -1,0 +1,17 @@
+//! What a script does to a contract, computed: `run` gives the state, the hits and whether the run was cut as the
+//! definitions of `sol_meaning` give them.
+#![tactic(auto)]
+
+mod calls;
+mod deployment;
+mod hits;
+mod numbers;
+mod outcome;
+mod runs;
+mod statements;
+#[cfg(test)]
+mod tests;
+mod values;
+
+pub use outcome::Run;
+pub use runs::run;
