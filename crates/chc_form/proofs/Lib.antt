@@ -5,3 +5,4 @@ pub mod Orders
 pub mod Joining
 pub mod Agreeing
 pub mod Deriving
+pub mod Truths

@@ -1,5 +1,6 @@
 pub mod Constraints
 pub mod Derivations
+pub mod Formulas
 pub mod Lemmas
 pub mod Linear
 pub mod Multipliers

@@ -7,6 +7,7 @@
 mod conditions;
 mod copies;
 mod formula;
+mod formula_laws;
 mod laws;
 mod lemma;
 mod lemma_laws;
@@ -20,6 +21,7 @@ mod tests;
 
 pub use conditions::well_made;
 pub use formula::{Derivation, Formula};
+pub use formula_laws::formula_law;
 pub use laws::{point_law, refutation_law};
 pub use lemma::{Cube, KeyTerm, Lemma, Lit, LitTerm};
 pub use lemma_laws::{derivation_law, joining_law, order_law};
