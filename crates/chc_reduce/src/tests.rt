@@ -1,0 +1,156 @@
+// Worked formulas: one predicate over a byte, from 0 on, one more while it is at most 9.
+
+use crate::{branch, is_plain, reduce, rows};
+use chc_form::{App, Con, Lemma, Lin, Lit, LitTerm, Part, Query, Row, Rule, Sort, System};
+use chc_nums::{List, NoMemory, Ty};
+use std::alloc::Global;
+use std::test::Fail;
+
+fn lin(alloc: Global, terms: &[(u32, i128)], konst: i128) -> Result<Lin, NoMemory> {
+    Ok(Lin {
+        terms: List::from_vec(Vec::from_slice(alloc, terms)?),
+        konst,
+    })
+}
+
+fn sorts(alloc: Global, count: usize) -> Result<List<Sort>, NoMemory> {
+    let mut sorts = List::new(alloc);
+    for _sort in 0..count {
+        sorts.push(Sort::Whole(Ty::Uint(1)))?;
+    }
+    Ok(sorts)
+}
+
+fn atom(alloc: Global, x: u32) -> Result<App, NoMemory> {
+    let mut args = List::new(alloc);
+    args.push(x)?;
+    Ok(App { pred: 0, args })
+}
+
+// p(y) from p(x), x <= 9, y = x + 1
+fn step(alloc: Global) -> Result<Rule, NoMemory> {
+    let mut body = List::new(alloc);
+    body.push(atom(alloc, 0)?)?;
+    let mut cons = List::new(alloc);
+    cons.push(Con::Le(lin(alloc, [(0, 1)].as_slice(), -9)?))?;
+    cons.push(Con::Le(lin(alloc, [(0, 1), (1, -1)].as_slice(), 1)?))?;
+    cons.push(Con::Le(lin(alloc, [(0, -1), (1, 1)].as_slice(), -1)?))?;
+    Ok(Rule {
+        vars: sorts(alloc, 2)?,
+        body,
+        cons,
+        head: atom(alloc, 1)?,
+    })
+}
+
+// p(x), x >= 11
+fn query(alloc: Global) -> Result<Query, NoMemory> {
+    let mut body = List::new(alloc);
+    body.push(atom(alloc, 0)?)?;
+    let mut cons = List::new(alloc);
+    cons.push(Con::Le(lin(alloc, [(0, -1)].as_slice(), 11)?))?;
+    Ok(Query {
+        vars: sorts(alloc, 1)?,
+        body,
+        cons,
+        target: 0,
+    })
+}
+
+fn system(alloc: Global) -> Result<System, NoMemory> {
+    let mut preds = List::new(alloc);
+    preds.push(sorts(alloc, 1)?)?;
+    let mut rules = List::new(alloc);
+    rules.push(step(alloc)?)?;
+    let mut queries = List::new(alloc);
+    queries.push(query(alloc)?)?;
+    Ok(System {
+        preds,
+        rules,
+        queries,
+    })
+}
+
+// x <= k, as one literal, or as two of which the second is x >= more
+fn lemma(alloc: Global, k: i128, more: Option<i128>) -> Result<Lemma, NoMemory> {
+    let mut lits = List::new(alloc);
+    let mut terms = List::new(alloc);
+    terms.push((LitTerm::Arg(0), 1))?;
+    lits.push(Lit { terms, konst: -k })?;
+    if let Some(k) = more {
+        let mut terms = List::new(alloc);
+        terms.push((LitTerm::Arg(0), -1))?;
+        lits.push(Lit { terms, konst: k })?;
+    }
+    Ok(Lemma {
+        pred: 0,
+        keys: List::new(alloc),
+        lits,
+    })
+}
+
+fn is_row(rows: &List<Row>, at: usize, terms: &[(u32, i128)], konst: i128) -> bool {
+    match rows.get(at) {
+        None => false,
+        Some(row) => row.lin.terms.as_slice() == terms && row.lin.konst == konst,
+    }
+}
+
+#[test]
+fn reduces_a_rule(rt: HostRuntime) -> Result<(), Fail> {
+    let alloc = rt.alloc();
+    let s = system(alloc)?;
+    if !chc_form::well_made(&s) {
+        assert!(rt; false, "the system is well made");
+        return Ok(());
+    }
+    let goal = lemma(alloc, 10, None)?;
+    let mut lemmas = Vec::new(alloc);
+    lemmas.push(lemma(alloc, 10, None)?)?;
+    let f = reduce(alloc, &s, Part::Rule(0), Some(&goal), lemmas.as_slice())?;
+    let rows = rows(alloc, &f)?;
+    for (at, terms, konst) in [
+        (0, [(0, -1)].as_slice(), 0),
+        (1, [(0, 1)].as_slice(), -255),
+        (2, [(1, -1)].as_slice(), 0),
+        (3, [(1, 1)].as_slice(), -255),
+        (4, [(1, -1)].as_slice(), 11),
+        (5, [(0, 1)].as_slice(), -9),
+        (6, [(0, 1), (1, -1)].as_slice(), 1),
+        (7, [(0, -1), (1, 1)].as_slice(), -1),
+        (8, [(0, 1)].as_slice(), -10),
+    ] {
+        assert!(rt; is_row(&rows, at, terms, konst), "row {at}");
+    }
+    assert_eq!(rt; rows.len(), 9);
+    assert!(rt; is_plain(&f));
+    assert_eq!(rt; branch(alloc, &f)?.as_slice(), [0u32].as_slice());
+    Ok(())
+}
+
+#[test]
+fn leaves_choices_out(rt: HostRuntime) -> Result<(), Fail> {
+    let alloc = rt.alloc();
+    let s = system(alloc)?;
+    if !chc_form::well_made(&s) {
+        assert!(rt; false, "the system is well made");
+        return Ok(());
+    }
+    let mut lemmas = Vec::new(alloc);
+    lemmas.push(lemma(alloc, 3, Some(7))?)?;
+    lemmas.push(lemma(alloc, 10, None)?)?;
+    let f = reduce(alloc, &s, Part::Query(0), None, lemmas.as_slice())?;
+    let rows = rows(alloc, &f)?;
+    for (at, terms, konst) in [
+        (0, [(0, -1)].as_slice(), 0),
+        (1, [(0, 1)].as_slice(), -255),
+        (2, [(0, -1)].as_slice(), 11),
+        (3, [(0, 1)].as_slice(), -10),
+    ] {
+        assert!(rt; is_row(&rows, at, terms, konst), "row {at}");
+    }
+    assert_eq!(rt; rows.len(), 4);
+    assert!(rt; !is_plain(&f));
+    assert_eq!(rt; branch(alloc, &f)?.as_slice(), [0u32].as_slice());
+    Ok(())
+}
