@@ -1,3 +1,4 @@
 pub mod Literals
+pub mod Obligations
 pub mod Reduced
 pub mod Rows
