@@ -4,14 +4,15 @@ use Rattle.std.specs.List.{concat}
 use Rattle.std.specs.declared.string.String.{String}
 use Rattle.std.specs.declared.alloc.Global.{Global}
 use Rattle.sol_outside.specs.Causes.{Rose, Appended, AppendedPart}
-use Rattle.sol_driver.specs.declared.report.Report.{Report}
-use Rattle.sol_driver.specs.declared.report.Status.{Status}
-use Rattle.sol_driver.specs.declared.report.Status.TheVariants as status
-use Rattle.sol_driver.specs.declared.report.Outcome.{Outcome}
+use Rattle.sol_report.specs.declared.Report.{Report}
+use Rattle.sol_report.specs.Texts.{text_of}
+use Rattle.sol_driver.specs.declared.outcome.Status.{Status}
+use Rattle.sol_driver.specs.declared.outcome.Status.TheVariants as status
+use Rattle.sol_driver.specs.declared.outcome.Outcome.{Outcome}
 use Rattle.sol_driver.specs.Command.{command}
 use Rattle.sol_driver.specs.Refusals.{IsRefusedWith}
 use Rattle.sol_driver.specs.Stands.{Stands}
-use Rattle.sol_driver.specs.Texts.{text_of, status_of, status_line}
+use Rattle.sol_driver.specs.Texts.{status_of, status_line}
 
 -- what was asked: the words; the bytes that the shelf holds under a name, where it tells them; and its count of faults,
 -- before and after
@@ -68,6 +69,8 @@ pub record TooLong (a : Asked) : Type 0 where
 abbrev pub Found : Asked → Status → Option Report → List ℕ → Type 0
 Found a status.Good (Some r) text = Reported a status.Good r × (text ≡ text_of r)
 Found a status.Good None text = ⊥
+Found a status.Unsafe (Some r) text = Reported a status.Unsafe r × (text ≡ text_of r)
+Found a status.Unsafe None text = ⊥
 Found a status.Unknown (Some r) text = Reported a status.Unknown r × (text ≡ text_of r)
 Found a status.Unknown None text = ⊥
 Found a status.Source None text = Refused a text
@@ -95,18 +98,25 @@ pub record ToldPart (a : Asked) (t : Told) (r : Option Report) : Type 0 where
   pub written : AppendedPart t.written_before t.written_after text
   pub rose : Rose t.faults_before t.faults_after
 
+-- memory was wanting: before anything was written; or after a part of what was found was written. Then the line that says
+-- so was tried, and a part of it was written.
+pub data ToldWithoutMemory (a : Asked) (t : Told) : Option Report → Type 0 where
+  before : AppendedPart t.written_before t.written_after (status_line status.NoMemory) → ToldWithoutMemory a t None
+  within : {s : Status} {r : Option Report} {text : List ℕ} → Found a s r text → (between : Option (List ℕ)) → AppendedPart t.written_before between text → AppendedPart between t.written_after (status_line status.NoMemory) → ToldWithoutMemory a t r
+
 -- Each status but those of a failed put and of want of memory comes only by what was found, which was then written
 -- whole. The causes of any two of them exclude each other, so each comes exactly where its cause is, but that a failed
--- put and want of memory may come in its place. Want of memory is free.
+-- put and want of memory may come in its place. When memory is wanting is free.
 abbrev pub EndsAs : Asked → Told → Status → Option Report → Type 0
 EndsAs a t status.Good r = ToldWhole a t status.Good r
+EndsAs a t status.Unsafe r = ToldWhole a t status.Unsafe r
 EndsAs a t status.Unknown r = ToldWhole a t status.Unknown r
 EndsAs a t status.Source r = ToldWhole a t status.Source r
 EndsAs a t status.Words r = ToldWhole a t status.Words r
 EndsAs a t status.ReadFault r = ToldWhole a t status.ReadFault r
 EndsAs a t status.TooLong r = ToldWhole a t status.TooLong r
 EndsAs a t status.WriteFault r = ToldPart a t r
-EndsAs a t status.NoMemory r = Unit {0}
+EndsAs a t status.NoMemory r = ToldWithoutMemory a t r
 
 abbrev pub Ends : Asked → Told → Outcome → Type 0
 Ends a t o = EndsAs a t o.status o.report

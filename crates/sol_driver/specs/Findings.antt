@@ -2,14 +2,15 @@
 use Rattle.std.specs.Prelude.{ℕ, List, Option, Some, None, Result, Ok, Err}
 use Rattle.sol_driver.specs.Refusals.{IsRefused, IsRefusedWith}
 use Rattle.sol_driver.specs.Stands.{Stands}
-use Rattle.sol_driver.specs.declared.report.Status.TheVariants as status
-use Rattle.sol_driver.specs.declared.report.Report.{Report}
+use Rattle.sol_driver.specs.declared.outcome.Status.TheVariants as status
+use Rattle.sol_report.specs.declared.Report.{Report}
+use Rattle.sol_report.specs.Texts.{text_of}
 use Rattle.sol_driver.specs.declared.check.CheckFault.{CheckFault}
 use Rattle.sol_driver.specs.declared.check.CheckFault.TheVariants as fault
 use Rattle.sol_driver.specs.declared.find.Finding.{Finding}
 use Rattle.sol_driver.specs.declared.find.Finding.TheVariants as finding
 use Rattle.sol_driver.specs.Ends.{Asked, Found}
-use Rattle.sol_driver.specs.Texts.{text_of, status_of, status_line}
+use Rattle.sol_driver.specs.Texts.{status_of, status_line}
 
 -- a status that has one line, a refused source and its line, or a report, whose verdicts give the status
 abbrev pub IsFinding : Asked → Finding → Type 0

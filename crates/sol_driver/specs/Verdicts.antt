@@ -1,48 +1,98 @@
--- The verdicts of a contract of the first language: what the run of the tableau says of the rows of each path.
-use Rattle.std.specs.Prelude.{ℕ, suc, List, [], ◌∷◌, ◌++◌, map, option_map, option_to_list}
-use Rattle.chc_form.specs.declared.Row.{Row}
-use Rattle.chc_form.specs.Linear.{lins}
-use Rattle.chc_simplex.specs.declared.Lp.{Lp}
-use Rattle.chc_simplex.specs.declared.Lp.TheVariants as lp
-use Rattle.chc_simplex.specs.TableauRun.{tableau_run}
-use Rattle.sol_first.specs.declared.Contract.{Contract}
-use Rattle.sol_first.specs.declared.Variable.{Variable}
-use Rattle.sol_first.specs.declared.Step.{Step}
-use Rattle.sol_first.specs.Elaborated.{program_of}
-use Rattle.sol_paths.specs.declared.Path.{Path}
-use Rattle.sol_paths.specs.PathRows.{path_rows, target}
-use Rattle.sol_driver.specs.declared.report.Why.{Why}
-use Rattle.sol_driver.specs.declared.report.Why.TheVariants as why
-use Rattle.sol_driver.specs.declared.report.Open.{Open}
-use Rattle.sol_driver.specs.declared.report.Report.{Report}
-use Rattle.sol_driver.specs.declared.report.Verdict.{Verdict}
-use Rattle.sol_driver.specs.declared.report.Verdict.TheVariants as verdict
+-- When a verdict on a target is right.
+use Rattle.std.specs.Prelude.{◌≡◌, ◌⊎◌, ◌≤◌, ℕ, suc, List, [], ◌∷◌, length, take, Option, Some, None}
+use lib.IntN.{ℤ}
+use Rattle.chc_form.specs.declared.Limits.{Limits}
+use Rattle.chc_form.specs.declared.Formula.{Formula}
+use Rattle.chc_form.specs.declared.System.{System}
+use Rattle.chc_form.specs.declared.Part.TheVariants as part
+use Rattle.chc_form.specs.declared.Lemma.{Lemma}
+use Rattle.chc_form.specs.Multipliers.{Refutes}
+use Rattle.chc_form.specs.Formulas.{FormulaRefuted}
+use Rattle.chc_reduce.specs.Reduced.{reduced}
+use Rattle.chc_reduce.specs.Rows.{rows_of}
+use Rattle.chc_ask.specs.declared.Why.{Why}
+use Rattle.chc_ask.specs.declared.Why.TheVariants as why
+use Rattle.chc_ask.specs.declared.Open.{Open}
+use Rattle.chc_ask.specs.Open.{MeetsLimit, StaysOpen}
+use Rattle.chc_houdini.specs.declared.RoundStop.{RoundStop}
+use Rattle.sol_core.specs.declared.Program.{Program}
+use Rattle.sol_core.specs.declared.Script.{Script}
+use Rattle.sol_meaning.specs.Run.{Violates}
+use Rattle.sol_meaning.specs.Fits.{Fits}
+use Rattle.sol_probe.specs.FirstHit.{IsFirstHit}
+use Rattle.sol_report.specs.declared.Stop.{Stop}
+use Rattle.sol_report.specs.declared.Stop.TheVariants as stop
+use Rattle.sol_report.specs.declared.Verdict.{Verdict}
+use Rattle.sol_report.specs.declared.Verdict.TheVariants as verdict
 
-abbrev pub opened : Why → Verdict
-opened w = verdict.Unknown (record { branch = []; why = w })
+-- how far each question goes
+abbrev pub limits : Limits
+limits = record { pivots = 100000; nodes = 65536 }
 
-abbrev pub verdict_of_run : Lp → Verdict
-verdict_of_run (lp.Infeasible ms) = verdict.Safe ms
-verdict_of_run (lp.Feasible x d) = opened (why.Point x d)
-verdict_of_run lp.Wide = opened why.Wide
-verdict_of_run lp.Pivots = opened why.Pivots
+-- what verdicts rest on: the program, its rule system, the drops of the template rounds, the lemmas that were kept, and those
+-- of the pool
+pub record Basis : Type 0 where
+  pub program : Program
+  pub system : System
+  pub drops : List RoundStop
+  pub kept : List Lemma
+  pub pool : List Lemma
 
--- at most 100,000 pivots are made
-abbrev pub verdict_of : List Row → Verdict
-verdict_of rows = verdict_of_run (tableau_run (lins rows) 100000)
+-- the formula of a target's query under lemmas
+abbrev pub query_under : Basis → ℕ → List Lemma → Formula
+query_under b t ls = reduced b.system (part.Query t) None ls
 
--- the rows of the path to a step's target, where it has one
-abbrev pub paths_here : List Variable → Step → Path → List (List Row)
-paths_here vars s p = option_to_list (option_map (λ t. p.rows ++ t ∷ []) (target vars s p))
+-- it isn't refuted over fractions, or meets a limit
+abbrev pub IsOpen : Formula → Type 0
+IsOpen f = (FormulaRefuted f → ⊥) ⊎ MeetsLimit limits f
 
--- verdicts with the numbers of their targets, from a first one on
-abbrev pub numbered : ℕ → List Verdict → List (ℕ × Verdict)
-numbered k [] = []
-numbered k (v ∷ vs) = (k, v) ∷ numbered (suc k) vs
+-- a drop, where it came of a limit, or else a later one
+abbrev pub or_later : RoundStop → Why → Option RoundStop → Option RoundStop
+or_later d (why.Point x n) later = later
+or_later d why.Wide later = Some d
+or_later d why.Pivots later = Some d
+or_later d why.Nodes later = Some d
 
-abbrev pub verdicts_of : Contract → List (ℕ × Verdict)
-verdicts_of c = numbered 0 (map verdict_of (path_rows c))
+-- the first drop that came of a limit
+abbrev pub first_of_limit : List RoundStop → Option RoundStop
+first_of_limit [] = None
+first_of_limit (d ∷ ds) = or_later d d.left.why (first_of_limit ds)
 
--- a contract's program, and its verdicts
-abbrev pub report_of : Contract → Report
-report_of c = record { program = program_of c; verdicts = verdicts_of c }
+-- why the templates leave a target open: the first drop that came of a limit, where there is one, and else its own query
+abbrev pub StopStands : Basis → ℕ → Stop → Type 0
+StopStands b t (stop.Round d) = first_of_limit b.drops ≡ Some d
+StopStands b t (stop.Target o) = (first_of_limit b.drops ≡ None) × StaysOpen limits (query_under b t b.kept) o
+
+-- the multipliers refute the query under the first n lemmas of the pool; and no script that fits and no number of turns violate
+-- the target
+pub record IsSafe (b : Basis) (t : ℕ) (ms : List ℤ) (n : ℕ) : Type 0 where
+  pub within : n ≤ length b.pool
+  pub refutes : Refutes ms (rows_of (query_under b t (take n b.pool)))
+  pub never : (x : Script) (k : ℕ) → Fits b.program x → Violates b.program t x k → ⊥
+
+-- the script fits and violates the target within 1,024 turns, and is the first probe that does
+pub record IsUnsafe (b : Basis) (t : ℕ) (x : Script) (n : ℕ) : Type 0 where
+  pub turns : n ≡ 1024
+  pub fits : Fits b.program x
+  pub violates : Violates b.program t x 1024
+  pub first : IsFirstHit b.program t (Some x)
+
+-- the query stays open under the kept lemmas, and under the pool's; and no probe violates the target
+pub record IsUnknown (b : Basis) (t : ℕ) (templates : Stop) (pool : Open) (seen tries : ℕ) : Type 0 where
+  pub under_kept : IsOpen (query_under b t b.kept)
+  pub under_pool : IsOpen (query_under b t b.pool)
+  pub no_probe : IsFirstHit b.program t None
+  pub templates_stop : StopStands b t templates
+  pub pool_stop : StaysOpen limits (query_under b t b.pool) pool
+  pub nothing_seen : seen ≡ 0
+  pub nothing_tried : tries ≡ 0
+
+abbrev pub VerdictStands : Basis → ℕ → Verdict → Type 0
+VerdictStands b t (verdict.Safe ms n) = IsSafe b t ms n
+VerdictStands b t (verdict.Unsafe x n) = IsUnsafe b t x n
+VerdictStands b t (verdict.Unknown s o seen tries) = IsUnknown b t s o seen tries
+
+-- right verdicts on targets in order, from number t on
+abbrev pub VerdictsStand : Basis → ℕ → List (ℕ × Verdict) → Type 0
+VerdictsStand b t [] = Unit {0}
+VerdictsStand b t (v ∷ vs) = (v.0 ≡ t) × VerdictStands b t v.1 × VerdictsStand b (suc t) vs

@@ -7,9 +7,10 @@ ghost use Rattle.sol_driver.specs.Findings.{IsFinding, IsJudged};
 use crate::check::{CheckFault, check};
 use crate::command::checked_file;
 use crate::refusal::refusal_line;
-use crate::report::{Report, Status};
+use crate::outcome::Status;
 use chc_nums::{List, NoMemory};
 use sol_outside::{Shelf, ShelfFault};
+use sol_report::Report;
 use std::alloc::Global;
 
 // The most bytes of a file.

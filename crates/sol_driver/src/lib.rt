@@ -7,13 +7,13 @@ mod check;
 mod command;
 mod find;
 mod judge;
+mod outcome;
+mod pool;
 mod refusal;
-mod report;
 mod tell;
 #[cfg(test)]
 mod tests;
-mod text;
 mod top;
 
-pub use report::{Open, Outcome, Report, Status, Verdict, Why};
-pub use top::{code, run_alone, run_main};
+pub use outcome::{Outcome, Status, code};
+pub use top::{run_alone, run_main};

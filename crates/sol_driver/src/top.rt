@@ -3,46 +3,34 @@
 ghost use Rattle.std.specs.Prelude.{◌≡◌, Some, None};
 ghost use Rattle.sol_driver.specs.Ends.{Asked, Told, Ends};
 ghost use Rattle.sol_driver.specs.Outcomes.{TellsText};
-ghost use Rattle.sol_driver.specs.Texts.{code_of, status_line, status_of, text_of};
+ghost use Rattle.sol_outside.specs.Causes.{AppendedPart};
+ghost use Rattle.sol_report.specs.Texts.{text_of};
+ghost use Rattle.sol_driver.specs.Texts.{status_line, status_of};
 
 use crate::find::{Finding, find};
-use crate::report::{Outcome, Report, Status};
+use crate::outcome::{Outcome, Status, status, status_line};
 use crate::tell::tell;
-use crate::text::{lines, status, status_line};
 use sol_outside::{Gate, Shelf, Sink, SinkFault};
+use sol_report::{Report, lines};
 use std::alloc::Global;
 use std::sync::Wait;
 use std::thread::Threads;
 
-/// The number that a process ends with.
-pub fn code(status: Status) -> u8
-    ensures { result ≡ code_of status }
-{
-    match status {
-        Status::Good => 0,
-        Status::Unknown => 2,
-        Status::Source => 3,
-        Status::Words => 4,
-        Status::ReadFault => 5,
-        Status::WriteFault => 6,
-        Status::NoMemory => 7,
-        Status::TooLong => 8,
-    }
-}
-
 // Want of memory is told once, as well as it can be; a fault of that changes nothing.
-fn without_memory<K: Sink>(out: &mut K) -> Outcome
-    ensures { result ≡ record { status = Status.NoMemory; report = None } }
+#[tactic(auto, using(crate::proofs::Outcomes::attempts))]
+fn without_memory<K: Sink>(report: Option<Report>, out: &mut K) -> Outcome
+    ensures outcome { result ≡ record { status = Status.NoMemory; report = report } }
+    ensures written { AppendedPart (K.written out.old) (K.written out.new) (status_line Status.NoMemory) }
 {
     let _ = out.put(status_line(Status::NoMemory));
     Outcome {
         status: Status::NoMemory,
-        report: None,
+        report,
     }
 }
 
-#[tactic(auto, using(crate::proofs::Outcomes::outcomes))]
 // A status that has one line and no report.
+#[tactic(auto, using(crate::proofs::Outcomes::outcomes))]
 fn tell_line<K: Sink>(status: Status, line: &[u8], out: &mut K) -> Outcome
     ensures { TellsText status None line.now (record {
       written_before = K.written out.old;
@@ -60,12 +48,12 @@ fn tell_line<K: Sink>(status: Status, line: &[u8], out: &mut K) -> Outcome
             status: Status::WriteFault,
             report: None,
         },
-        Err(SinkFault::NoMemory) => without_memory(out),
+        Err(SinkFault::NoMemory) => without_memory(None, out),
     }
 }
 
-#[tactic(auto, using(crate::proofs::Outcomes::outcomes))]
 // A report, and the status that its verdicts give.
+#[tactic(auto, using(crate::proofs::Outcomes::outcomes))]
 fn tell_report<K: Sink>(alloc: Global, report: Report, out: &mut K) -> Outcome
     ensures { TellsText (status_of report.verdicts) (Some report) (text_of report) (record {
       written_before = K.written out.old;
@@ -75,7 +63,7 @@ fn tell_report<K: Sink>(alloc: Global, report: Report, out: &mut K) -> Outcome
     }) result }
 {
     let Ok(lines) = lines(alloc, &report) else {
-        return without_memory(out);
+        return without_memory(None, out);
     };
     let status = status(report.verdicts.as_slice());
     match tell(lines.as_slice(), out) {
@@ -87,7 +75,7 @@ fn tell_report<K: Sink>(alloc: Global, report: Report, out: &mut K) -> Outcome
             status: Status::WriteFault,
             report: Some(report),
         },
-        Err(SinkFault::NoMemory) => without_memory(out),
+        Err(SinkFault::NoMemory) => without_memory(Some(report), out),
     }
 }
 
@@ -116,7 +104,7 @@ pub fn run_alone<F: Shelf, K: Sink>(
         Ok(Finding::Line(status)) => tell_line(status, status_line(status), out),
         Ok(Finding::Refused(line)) => tell_line(Status::Source, line.as_slice(), out),
         Ok(Finding::Checked(report)) => tell_report(alloc, report, out),
-        Err(_) => without_memory(out),
+        Err(_) => without_memory(None, out),
     }
 }
 

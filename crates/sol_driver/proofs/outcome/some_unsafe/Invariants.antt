@@ -1,0 +1,6 @@
+use Rattle.std.proofs.Common.{◌≡◌, drop}
+use Rattle.sol_driver.specs.Texts.{is_unsafe, some_verdict}
+use Rattle.sol_driver.proofs.outcome.some_unsafe.Given as goal
+
+abbrev pub invariant-loop-entry : goal.invariant-loop-entry
+invariant-loop-entry l = some_verdict is_unsafe (drop l.entry-index l.verdicts) ≡ some_verdict is_unsafe l.verdicts
