@@ -1,0 +1,4 @@
+pub mod Orders
+pub mod Splitting
+pub mod Large
+pub mod Laws

@@ -1,0 +1,3 @@
+pub mod Constants
+pub mod Candidates
+pub mod Firsts
