@@ -1,6 +1,7 @@
 -- What a sized form has: sized parts.
 use Rattle.std.proofs.Common.{◌≡◌, ◌∙◌, sym, ap, refl, ℕ, zero, suc, ◌≤◌, Bool, true, false, ◌&&◌, List, [], ◌∷◌, Some, slice_get, nat_le, leb, arith}
 use Rattle.std.specs.List.{list_all}
+use lib.IntN.{ℤ}
 use Rattle.std.proofs.lemmas.Bool.Decides.{nat_tests}
 use Rattle.chc_nums.specs.declared.Ty.{Ty}
 use Rattle.chc_nums.specs.declared.Ty.TheVariants as ty
@@ -9,8 +10,8 @@ use Rattle.chc_nums.specs.Types.{IsType}
 use Rattle.sol_core.specs.declared.Cmp.{Cmp}
 use Rattle.sol_core.specs.declared.Marks.{Marks}
 use Rattle.sol_core.specs.declared.Place.{Place}
-use Rattle.sol_core.specs.declared.Expr.{Expr, Arith, Compare, Cast}
-use Rattle.sol_core.specs.declared.Expr.TheVariants.{rolls-Arith, rolls-Compare, rolls-Cast}
+use Rattle.sol_core.specs.declared.Expr.{Expr, Num, Scalar, Arith, Compare, Cast}
+use Rattle.sol_core.specs.declared.Expr.TheVariants.{rolls-Num, rolls-Scalar, rolls-Arith, rolls-Compare, rolls-Cast}
 use Rattle.sol_core.specs.declared.Expr.TheOpen.{Expr-F}
 use Rattle.sol_core.specs.declared.Expr.TheFolds.{fold-Expr, fold-roll-Expr}
 use Rattle.sol_core.specs.declared.Stmt.{Stmt, Set, Require, Assert}
@@ -30,6 +31,14 @@ type_size ty.Bool h = tt
 type_size (ty.Uint s) h = let p = both (nat_le 1 s) (nat_le s 12) h in (grind (arith, nat_tests), grind (arith, nat_tests))
 type_size (ty.Int s) h = let p = both (nat_le 1 s) (nat_le s 12) h in (grind (arith, nat_tests), grind (arith, nat_tests))
 type_size ty.Addr h = tt
+
+pub sized-Num : (n : ℤ) (t : Ty) → expr_sized (Num n t) ≡ true
+unfolding expr_sized
+sized-Num n t = ap (λ (z : Expr). fold-Expr Bool expr_layer z) (sym (rolls-Num n t)) ∙ fold-roll-Expr Bool expr_layer (Expr-F.Num n t)
+
+pub sized-Scalar : (i : ℕ) → expr_sized (Scalar i) ≡ true
+unfolding expr_sized
+sized-Scalar i = ap (λ (z : Expr). fold-Expr Bool expr_layer z) (sym (rolls-Scalar i)) ∙ fold-roll-Expr Bool expr_layer (Expr-F.Scalar i)
 
 pub sized-Arith : (o : Op) (t : Ty) (c : Bool) (a b : Expr) (m : Marks) → expr_sized (Arith o t c a b m) ≡ (type_sized t && (expr_sized a && expr_sized b))
 unfolding expr_sized
@@ -108,5 +117,10 @@ pub body_sized : (fs : List Fun) (i : ℕ) (f : Fun) → list_all fun_sized fs �
 body_sized fs i f h e = entry-sized fun_sized fs i f h e
 
 pub ruleset programs = (bodies-sized, initialisers-sized)
+
 pub ruleset expressions = (arith-type, arith-first, arith-second, compare-first, compare-second, cast-type, cast-value)
+
 pub ruleset forms = (set-value, require-condition, assert-condition)
+
+-- when each form is sized
+pub ruleset sized = (sized-Num, sized-Scalar, sized-Arith, sized-Compare, sized-Cast, sized-Set, sized-Require, sized-Assert)
