@@ -1,5 +1,5 @@
 -- What is made of lists that were cut off after 4,096 entries has the same first 4,096 entries.
-use Rattle.std.proofs.Common.{◌≡◌, ◌∙◌, sym, refl, ap, ℕ, ◌<◌, List, [], ◌∷◌, ◌++◌, length, take, map, pos, Some, None, arith, length-map}
+use Rattle.std.proofs.Common.{◌≡◌, ◌∙◌, sym, refl, ap, ℕ, ◌<◌, List, [], ◌∷◌, ◌++◌, length, take, map, pos, Some, None, arith}
 use Rattle.std.specs.List.{flat_map}
 use lib.IntN.{ℤ}
 use Rattle.chc_nums.specs.declared.Ty.{Ty}
@@ -11,17 +11,16 @@ use Rattle.sol_probe.specs.Filled.{filled}
 use Rattle.sol_probe.specs.Probes.{fronted, corners, choices, senders, deployed_by, deployments, called_by, calls_of, calls_from, calls, with_call, with_calls, probes}
 use Rattle.sol_probe.proofs.Filling.{filled-none, filled-more, filled-start, filled-map-cut, filled-each, take-joined, take-rows}
 
-pub choices-none : (all : List (List ℤ)) → all ≡ [] ∷ [] → all ≡ take 4096 (choices [])
+pub choices-none : take 4096 (choices []) ≡ [] ∷ []
 unfolding choices
-choices-none all e = e
+choices-none = refl
 
-pub choices-more : (t : Ty) (ts : List Ty) (all rest : List (List ℤ)) (vs : List ℤ) → rest ≡ take 4096 (choices ts) → vs ≡ corners t → all ≡ take 4096 (flat_map (fronted rest) vs) → all ≡ take 4096 (choices (t ∷ ts))
+pub choices-more : (t : Ty) (ts : List Ty) → take 4096 (choices (t ∷ ts)) ≡ take 4096 (flat_map (fronted (take 4096 (choices ts))) (corners t))
 unfolding choices
-choices-more t ts all rest vs r v e =
+choices-more t ts =
     let cut : filled [] (flat_map (fronted (take 4096 (choices ts))) (corners t)) ≡ filled [] (flat_map (fronted (choices ts)) (corners t)) =
     filled-each (fronted (take 4096 (choices ts))) (fronted (choices ts)) (λ x all. filled-map-cut (λ (zs : List ℤ). x ∷ zs) all (choices ts)) [] (corners t) in
-    let made : all ≡ take 4096 (flat_map (fronted (take 4096 (choices ts))) (corners t)) = rw (r, v) at e in
-    made ∙ sym (filled-start (flat_map (fronted (take 4096 (choices ts))) (corners t))) ∙ cut ∙ filled-start (flat_map (fronted (choices ts)) (corners t))
+    sym (filled-start (flat_map (fronted (choices ts)) (corners t))) ∙ sym cut ∙ filled-start (flat_map (fronted (take 4096 (choices ts))) (corners t))
 
 pub ruleset choosing = (choices-none, choices-more)
 
@@ -31,27 +30,21 @@ unfolding senders
 two-senders {B = B} f h cs all =
     ap (λ (zs : List B). filled zs (f (take 4096 cs) (pos 2))) (h cs (pos 1) all) ∙ h cs (pos 2) (filled all (f cs (pos 1))) ∙ sym (filled-none (filled (filled all (f cs (pos 1))) (f cs (pos 2)))) ∙ filled-more (filled all (f cs (pos 1))) (f cs (pos 2)) [] ∙ filled-more all (f cs (pos 1)) (f cs (pos 2) ++ [])
 
-pub deployments-made : (p : Program) (cs : List (List ℤ)) (a b : List Script) → cs ≡ take 4096 (choices p.params) → a ≡ filled [] (deployed_by cs (pos 1)) → b ≡ filled a (deployed_by cs (pos 2)) → b ≡ take 4096 (deployments p)
+pub deployments_made : (p : Program) → take 4096 (deployments p) ≡ filled (filled [] (deployed_by (take 4096 (choices p.params)) (pos 1))) (deployed_by (take 4096 (choices p.params)) (pos 2))
 unfolding deployments
-deployments-made p cs a b c f g =
-    let both : b ≡ filled (filled [] (deployed_by (take 4096 (choices p.params)) (pos 1))) (deployed_by (take 4096 (choices p.params)) (pos 2)) = rw (f, c) at g in
-    both ∙ two-senders deployed_by (λ ds s all. filled-map-cut (λ (args : List ℤ). record { sender = s; args = args; calls = [] }) all ds) (choices p.params) [] ∙ filled-start (flat_map (deployed_by (choices p.params)) senders)
-
-pub ruleset deploying = (deployments-made, filled-none)
+deployments_made p = sym (two-senders deployed_by (λ ds s all. filled-map-cut (λ (args : List ℤ). record { sender = s; args = args; calls = [] }) all ds) (choices p.params) [] ∙ filled-start (flat_map (deployed_by (choices p.params)) senders))
 
 pub calls_of-none : (d : ℕ) (all : List PlainCall) → filled all (calls_of d None) ≡ all
 unfolding calls_of
 calls_of-none d all = filled-none all
 
-pub calls_of-some : (d : ℕ) (f : Fun) (cs : List (List ℤ)) (a b c : List PlainCall) → cs ≡ take 4096 (choices (take f.params f.locals)) → b ≡ filled a (called_by d cs (pos 1)) → c ≡ filled b (called_by d cs (pos 2)) → c ≡ filled a (calls_of d (Some f))
+pub calls_of-some : (d : ℕ) (f : Fun) (all : List PlainCall) → filled all (calls_of d (Some f)) ≡ filled (filled all (called_by d (take 4096 (choices (take f.params f.locals))) (pos 1))) (called_by d (take 4096 (choices (take f.params f.locals))) (pos 2))
 unfolding calls_of
-calls_of-some d f cs a b c e g h =
-    let both : c ≡ filled (filled a (called_by d (take 4096 (choices (take f.params f.locals))) (pos 1))) (called_by d (take 4096 (choices (take f.params f.locals))) (pos 2)) = rw (g, e) at h in
-    both ∙ two-senders (called_by d) (λ ds s all. filled-map-cut (λ (args : List ℤ). record { door = d; sender = s; args = args }) all ds) (choices (take f.params f.locals)) a
+calls_of-some d f all = sym (two-senders (called_by d) (λ ds s all. filled-map-cut (λ (args : List ℤ). record { door = d; sender = s; args = args }) all ds) (choices (take f.params f.locals)) all)
 
-pub calls-made : (p : Program) (all : List PlainCall) → all ≡ filled [] (calls_from p 0 p.doors) → all ≡ take 4096 (calls p)
+pub calls-made : (p : Program) → take 4096 (calls p) ≡ filled [] (calls_from p 0 p.doors)
 unfolding calls
-calls-made p all e = e ∙ filled-start (calls_from p 0 p.doors)
+calls-made p = sym (filled-start (calls_from p 0 p.doors))
 
 pub ruleset calling = (calls_of-none, calls_of-some, calls-made)
 
@@ -67,12 +60,9 @@ rows-cut (c ∷ cs) xs = take-rows (with_calls (c ∷ cs)) (λ s. omega arith) 4
 called-cut : (cs : List PlainCall) (xs : List Script) → take 4096 (flat_map (with_calls (take 4096 cs)) xs) ≡ take 4096 (flat_map (with_calls cs) xs)
 called-cut cs xs = sym (filled-start (flat_map (with_calls (take 4096 cs)) xs)) ∙ filled-each (with_calls (take 4096 cs)) (with_calls cs) (λ s all. filled-map-cut (with_call s) all cs) [] xs ∙ filled-start (flat_map (with_calls cs) xs)
 
-pub probes_made : (p : Program) (ds : List Script) (cs : List PlainCall) (m all : List Script) → ds ≡ take 4096 (deployments p) → cs ≡ take 4096 (calls p) → m ≡ take 4096 (flat_map (with_calls cs) ds) → all ≡ take 4096 (ds ++ m) → all ≡ probes p
+pub probes_made : (p : Program) → probes p ≡ take 4096 (take 4096 (deployments p) ++ take 4096 (flat_map (with_calls (take 4096 (calls p))) (take 4096 (deployments p))))
 unfolding probes
-probes_made p ds cs m all d c f g =
-    let second : m ≡ take 4096 (flat_map (with_calls (take 4096 (calls p))) (take 4096 (deployments p))) = rw (d, c) at f in
-    let exact : m ≡ take 4096 (flat_map (with_calls (calls p)) (deployments p)) = second ∙ called-cut (calls p) (take 4096 (deployments p)) ∙ rows-cut (calls p) (deployments p) in
-    let both : all ≡ take 4096 (take 4096 (deployments p) ++ take 4096 (flat_map (with_calls (calls p)) (deployments p))) = rw (d, exact) at g in
-    both ∙ take-joined 4096 (deployments p) (flat_map (with_calls (calls p)) (deployments p))
-
-
+probes_made p =
+    let second : take 4096 (flat_map (with_calls (take 4096 (calls p))) (take 4096 (deployments p))) ≡ take 4096 (flat_map (with_calls (calls p)) (deployments p)) =
+    called-cut (calls p) (take 4096 (deployments p)) ∙ rows-cut (calls p) (deployments p) in
+    rw second (sym (take-joined 4096 (deployments p) (flat_map (with_calls (calls p)) (deployments p))))

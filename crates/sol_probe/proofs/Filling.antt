@@ -22,7 +22,7 @@ take-within {A = A} (suc k) (suc n) (x ∷ xs) h = let p : k ≤ n = omega arith
 -- a front of two lists
 pub take-two : {A : Type 0} (n : ℕ) (xs ys : List A) → take n (xs ++ ys) ≡ take n xs ++ take (n - length (take n xs)) ys
 take-two zero xs ys = refl
-take-two (suc n) [] ys = refl
+take-two (suc n) [] ys = let e : suc n - 0 ≡ suc n = omega arith in rw e refl
 take-two {A = A} (suc n) (x ∷ xs) ys =
     let e : suc n - suc (length (take n xs)) ≡ n - length (take n xs) = omega arith in
     rw e (ap (λ (zs : List A). x ∷ zs) (take-two n xs ys))

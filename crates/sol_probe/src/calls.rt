@@ -18,7 +18,7 @@ pub struct PlainCall {
 }
 
 /// The first calls through a program's doors.
-#[tactic(auto, using(crate::proofs::Choosing::calling))]
+#[tactic(auto, using(std::proofs::lemmas::Grind::common_steps, crate::proofs::Filling::filling, crate::proofs::Choosing::calling))]
 pub fn calls(alloc: Global, p: &Program) -> Result<List<PlainCall>, NoMemory>
     ensures { IfOk result (λ all. all ≡ take 4096 (calls p.now)) }
 {
@@ -36,7 +36,7 @@ pub fn calls(alloc: Global, p: &Program) -> Result<List<PlainCall>, NoMemory>
     Ok(all)
 }
 
-#[tactic(auto, using(crate::proofs::Choosing::calling))]
+#[tactic(auto, using(std::proofs::lemmas::Grind::common_steps, crate::proofs::Filling::filling, crate::proofs::Choosing::calling))]
 fn add_calls_at(
     alloc: Global,
     all: &mut List<PlainCall>,
@@ -52,7 +52,7 @@ fn add_calls_at(
     }
 }
 
-#[tactic(auto, using(crate::proofs::Choosing::calling))]
+#[tactic(auto, using(std::proofs::lemmas::Grind::common_steps, crate::proofs::Filling::filling, crate::proofs::Choosing::calling))]
 fn add_calls_of(
     alloc: Global,
     all: &mut List<PlainCall>,
@@ -65,8 +65,8 @@ fn add_calls_of(
         return Ok(());
     }
     let args = choices(alloc, parameters(fun))?;
-    add_calls(alloc, all, door, 1, args.as_slice())?;
-    add_calls(alloc, all, door, 2, args.as_slice())
+    add_calls(alloc, all, door, &1, args.as_slice())?;
+    add_calls(alloc, all, door, &2, args.as_slice())
 }
 
 fn parameters(fun: &Fun) -> &[Ty]
@@ -80,22 +80,26 @@ fn parameters(fun: &Fun) -> &[Ty]
     &all[..count]
 }
 
-#[tactic(auto, using(crate::proofs::Filling::filling))]
+#[tactic(auto, using(std::proofs::lemmas::Grind::common_steps, crate::proofs::Filling::filling))]
 fn add_calls(
     alloc: Global,
     all: &mut List<PlainCall>,
     door: u32,
-    sender: i128,
+    sender: &i128,
     choices: &[List<i128>],
 ) -> Result<(), NoMemory>
-    ensures { OnOk result (all.new ≡ filled all.old (called_by door choices.now sender)) }
+    ensures { OnOk result (all.new ≡ filled all.old (called_by door choices.now sender.now)) }
 {
     for args in choices {
         if all.len() >= LIMIT {
             return Ok(());
         }
         let args = args.copy(alloc)?;
-        all.push(PlainCall { door, sender, args })?;
+        all.push(PlainCall {
+            door,
+            sender: *sender,
+            args,
+        })?;
     }
     Ok(())
 }

@@ -13,7 +13,7 @@ use std::alloc::Global;
 pub const LIMIT: usize = 4096;
 
 /// The first choices of arguments of types, the last argument the fastest.
-#[tactic(auto, using(crate::proofs::Choosing::choosing))]
+#[tactic(auto, using(std::proofs::lemmas::Grind::common_steps, crate::proofs::Choosing::choosing))]
 pub fn choices(alloc: Global, types: &[Ty]) -> Result<List<List<i128>>, NoMemory>
     ensures { IfOk result (λ all. all ≡ take 4096 (choices types.now)) }
 {
@@ -35,31 +35,31 @@ fn no_arguments(alloc: Global) -> Result<List<List<i128>>, NoMemory>
     Ok(all)
 }
 
-#[tactic(auto, using(crate::proofs::Filling::filling))]
+#[tactic(auto, using(std::proofs::lemmas::Grind::common_steps, crate::proofs::Filling::filling))]
 fn fronts(alloc: Global, values: &[i128], rest: &[List<i128>]) -> Result<List<List<i128>>, NoMemory>
     ensures { IfOk result (λ all. all ≡ take 4096 (flat_map (fronted rest.now) values.now)) }
 {
     let mut all = List::new(alloc);
     for value in values {
-        add_fronted(alloc, &mut all, *value, rest)?;
+        add_fronted(alloc, &mut all, value, rest)?;
     }
     Ok(all)
 }
 
-#[tactic(auto, using(crate::proofs::Filling::filling))]
+#[tactic(auto, using(std::proofs::lemmas::Grind::common_steps, crate::proofs::Filling::filling))]
 fn add_fronted(
     alloc: Global,
     all: &mut List<List<i128>>,
-    value: i128,
+    value: &i128,
     rest: &[List<i128>],
 ) -> Result<(), NoMemory>
-    ensures { OnOk result (all.new ≡ filled all.old (fronted rest.now value)) }
+    ensures { OnOk result (all.new ≡ filled all.old (fronted rest.now value.now)) }
 {
     for values in rest {
         if all.len() >= LIMIT {
             return Ok(());
         }
-        all.push(in_front(alloc, value, values.as_slice())?)?;
+        all.push(in_front(alloc, *value, values.as_slice())?)?;
     }
     Ok(())
 }

@@ -7,7 +7,7 @@ ghost use Rattle.sol_meaning.specs.Fits.{Fits};
 ghost use Rattle.sol_probe.specs.Probes.{probes};
 
 /// Each probe of a program fits it.
-#[tactic(auto, using(crate::proofs::Fitting::fitting))]
+#[tactic(auto, using(crate::proofs::Fitting::probes_fit))]
 pub fn probe_law()
     ensures { (p : Program) (s : Script) → Contains (probes p) s → Fits p s }
 {}

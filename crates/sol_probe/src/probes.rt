@@ -14,7 +14,7 @@ use sqlite_items::Items;
 use std::alloc::Global;
 
 /// The probes of a program, at most 4,096.
-#[tactic(auto, using(crate::proofs::Choosing::probes_made))]
+#[tactic(auto, using(std::proofs::lemmas::Grind::common_steps, crate::proofs::Choosing::probes_made))]
 pub fn probes(alloc: Global, p: &Program) -> Result<List<Script>, NoMemory>
     ensures { IfOk result (λ all. all ≡ probes p.now) }
 {
@@ -34,7 +34,7 @@ fn joined(first: List<Script>, second: List<Script>) -> Result<List<Script>, NoM
     Ok(List::from_vec(all))
 }
 
-#[tactic(auto, using(crate::proofs::Filling::filling))]
+#[tactic(auto, using(std::proofs::lemmas::Grind::common_steps, crate::proofs::Filling::filling))]
 fn called(alloc: Global, scripts: &[Script], calls: &[PlainCall]) -> Result<List<Script>, NoMemory>
     ensures { IfOk result (λ all. all ≡ take 4096 (flat_map (with_calls calls.now) scripts.now)) }
 {
@@ -45,7 +45,7 @@ fn called(alloc: Global, scripts: &[Script], calls: &[PlainCall]) -> Result<List
     Ok(all)
 }
 
-#[tactic(auto, using(crate::proofs::Filling::filling))]
+#[tactic(auto, using(std::proofs::lemmas::Grind::common_steps, crate::proofs::Filling::filling))]
 fn add_called(
     alloc: Global,
     all: &mut List<Script>,

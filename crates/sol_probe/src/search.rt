@@ -1,7 +1,7 @@
 // The first probe that violates a target.
 
-ghost use Rattle.std.specs.Prelude.{◌≡◌, IsTrue, IfOk};
-ghost use Rattle.std.specs.List.{find};
+ghost use Rattle.std.specs.Prelude.{◌≡◌, ◌==◌, IsTrue, IfOk};
+ghost use Rattle.std.specs.List.{find, list_any};
 ghost use Rattle.sol_eval.specs.Sized.{is_sized};
 ghost use Rattle.sol_probe.specs.FirstHit.{IsFirstHit, is_hit};
 ghost use Rattle.sol_probe.specs.Probes.{probes};
@@ -16,7 +16,6 @@ use std::alloc::Global;
 const TURNS: u32 = 1024;
 
 /// The first probe of a program that violates a target within 1,024 turns, or none where none does.
-#[tactic(auto, using(crate::proofs::FirstHits::first_found))]
 pub fn first_hit(alloc: Global, p: &Program, site: u32) -> Result<Option<Script>, NoMemory>
     requires { IsTrue (is_sized p.now) }
     ensures { IfOk result (λ o. IsFirstHit p.now site o) }
@@ -45,11 +44,16 @@ fn first_of(
     Ok(None)
 }
 
-#[tactic(auto, using(crate::proofs::FirstHits::same_hit))]
 fn hits(alloc: Global, p: &Program, site: u32, s: &Script) -> Result<bool, NoMemory>
     requires { IsTrue (is_sized p.now) }
     ensures { IfOk result (λ b. b ≡ is_hit p.now site s.now) }
 {
     let run = run(alloc, p, s, TURNS)?;
-    Ok(run.hits.as_slice().iter().any(|hit| site == *hit))
+    Ok(holds(run.hits.as_slice(), site))
+}
+
+fn holds(sites: &[u32], site: u32) -> bool
+    ensures { result ≡ list_any (λ t. site == t) sites.now }
+{
+    sites.iter().any(|t| site == *t)
 }
