@@ -1,9 +1,11 @@
 // Calls of functions.
 
-ghost use Rattle.std.specs.Prelude.{◌≡◌, ◌<◌, IfOk, Some, slice_get, ◌++◌, map, take, pos};
+ghost use Rattle.std.specs.List.{list_all};
+ghost use Rattle.std.specs.Prelude.{◌≡◌, ◌<◌, IsTrue, IfOk, Some, slice_get, ◌++◌, map, take, pos};
 ghost use Rattle.sol_meaning.specs.Exec.{exec_all, entered, finished, called};
 ghost use Rattle.sol_meaning.specs.Run.{door};
 ghost use Rattle.sol_eval.specs.Ran.{Ran, Kept};
+ghost use Rattle.sol_eval.specs.Sized.{fun_sized};
 
 use crate::statements::exec_all;
 use chc_nums::{List, NoMemory, Ty};
@@ -19,6 +21,7 @@ pub fn call_door(
     args: &[i128],
     w: &mut World,
 ) -> Result<End, NoMemory>
+    requires { IsTrue (list_all fun_sized p.now.funs) }
     ensures ran { Ran (called (door p.now d) args.now w.old) result w.new }
     ensures kept { Kept w.old.state w.new.state }
 {
@@ -29,6 +32,7 @@ pub fn call_door(
 }
 
 /// A call of the function at a place, where there is one.
+#[tactic(auto, using(crate::proofs::Sizes::body_sized))]
 pub fn call(
     alloc: Global,
     p: &Program,
@@ -36,6 +40,7 @@ pub fn call(
     args: &[i128],
     w: &mut World,
 ) -> Result<End, NoMemory>
+    requires { IsTrue (list_all fun_sized p.now.funs) }
     ensures ran { Ran (called (slice_get p.now.funs f) args.now w.old) result w.new }
     ensures kept { Kept w.old.state w.new.state }
 {
@@ -46,6 +51,7 @@ pub fn call(
 }
 
 fn enter(alloc: Global, fun: &Fun, args: &[i128], w: &mut World) -> Result<End, NoMemory>
+    requires { IsTrue (fun_sized fun.now) }
     ensures ran { Ran (called (Some fun.now) args.now w.old) result w.new }
     ensures kept { Kept w.old.state w.new.state }
 {
@@ -58,6 +64,7 @@ fn enter(alloc: Global, fun: &Fun, args: &[i128], w: &mut World) -> Result<End, 
 }
 
 fn run_body(fun: &Fun, w: &mut World) -> Result<End, NoMemory>
+    requires { IsTrue (fun_sized fun.now) }
     ensures ran { Ran (finished (exec_all fun.now.body w.old)) result w.new }
     ensures kept { Kept w.old.state w.new.state }
 {

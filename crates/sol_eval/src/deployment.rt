@@ -1,10 +1,12 @@
 // What a deployment does.
 
-ghost use Rattle.std.specs.Prelude.{◌≡◌, IfOk, map, pos, [], List};
+ghost use Rattle.std.specs.List.{list_all};
+ghost use Rattle.std.specs.Prelude.{◌≡◌, IsTrue, IfOk, map, pos, [], List};
 ghost use lib.IntN.{ℤ};
 ghost use Rattle.sol_meaning.specs.Exec.{all_of};
 ghost use Rattle.sol_meaning.specs.Run.{zero_state, build_arg, constructed, built, fresh};
 ghost use Rattle.sol_eval.specs.Ran.{Ran};
+ghost use Rattle.sol_eval.specs.Sized.{fun_sized, build_sized};
 
 use crate::calls::call;
 use crate::numbers::number_at;
@@ -68,6 +70,8 @@ pub fn build_all(
     builds: &[Build],
     w: &mut World,
 ) -> Result<End, NoMemory>
+    requires bodies { IsTrue (list_all fun_sized p.now.funs) }
+    requires initialisers { IsTrue (list_all build_sized builds.now) }
     ensures { Ran (all_of (map (built p.now given.now) builds.now) w.old) result w.new }
 {
     for b in builds {
@@ -86,6 +90,8 @@ fn build(
     b: &Build,
     w: &mut World,
 ) -> Result<End, NoMemory>
+    requires bodies { IsTrue (list_all fun_sized p.now.funs) }
+    requires initialisers { IsTrue (build_sized b.now) }
     ensures { Ran (built p.now given.now b.now w.old) result w.new }
 {
     match exec_all(b.inits.as_slice(), w)? {
@@ -101,6 +107,7 @@ fn construct(
     b: &Build,
     w: &mut World,
 ) -> Result<End, NoMemory>
+    requires { IsTrue (list_all fun_sized p.now.funs) }
     ensures { Ran (constructed p.now given.now b.now.fun b.now.args w.old) result w.new }
 {
     match b.fun {

@@ -1,31 +1,21 @@
 // Operations on numbers.
 
-ghost use Rattle.std.specs.Prelude.{◌≡◌, ◌↔◌, ◌+◌, ◌<◌, ◌^◌, ◌+ℤ◌, ◌-ℤ◌, pos, ◌≤ℤ◌, IsTrue, IfOk};
+ghost use Rattle.std.specs.Prelude.{◌≡◌, ◌+◌, ◌<◌, ◌^◌, ◌+ℤ◌, ◌-ℤ◌, pos, ◌≤ℤ◌, IsTrue};
 ghost use Rattle.chc_nums.specs.Types.{IsType, judged};
 ghost use Rattle.sol_meaning.specs.Eval.{compared, truth, modulo, wrapped, number_at};
 ghost use Rattle.sol_meaning.specs.Exec.{is_zero};
+ghost use Rattle.sol_eval.specs.Sized.{type_sized};
 
-use chc_nums::{NoMemory, Num, Op, Ty, checked_op, power, sum};
+use chc_nums::{Num, Op, Ty, checked_op, power, sum};
 use sol_core::Cmp;
 
-/// An operation checked against its type, or no answer for a type of no size that Solidity has.
-pub fn judged(op: Op, ty: Ty, x: i128, y: i128) -> Result<Num, NoMemory>
-    ensures { IfOk result (λ n. n ≡ judged op ty x y) }
+/// An operation checked against its type.
+#[tactic(auto, using(crate::proofs::Sizes::type_size))]
+pub fn judged(op: Op, ty: Ty, x: i128, y: i128) -> Num
+    requires { IsTrue (type_sized ty) }
+    ensures { result ≡ judged op ty x y }
 {
-    if is_type(ty) {
-        Ok(checked_op(op, ty, x, y))
-    } else {
-        Err(NoMemory)
-    }
-}
-
-fn is_type(ty: Ty) -> bool
-    ensures { IsTrue result ↔ IsType ty }
-{
-    match ty {
-        Ty::Bool | Ty::Addr => true,
-        Ty::Uint(size) | Ty::Int(size) => size >= 1 && size <= 12,
-    }
+    checked_op(op, ty, x, y)
 }
 
 pub fn compared(cmp: Cmp, x: i128, y: i128) -> bool
@@ -63,15 +53,13 @@ pub fn number_at(all: &[i128], at: u32) -> i128
     }
 }
 
-/// A number taken into a type, or no answer for a type of no size that Solidity has.
-pub fn wrapped(ty: Ty, z: i128) -> Result<i128, NoMemory>
-    ensures { IfOk result (λ n. n ≡ wrapped ty z) }
+/// A number taken into a type.
+#[tactic(auto, using(crate::proofs::Sizes::type_size))]
+pub fn wrapped(ty: Ty, z: i128) -> i128
+    requires { IsTrue (type_sized ty) }
+    ensures { result ≡ wrapped ty z }
 {
-    if is_type(ty) {
-        Ok(wrapped_in(ty, z))
-    } else {
-        Err(NoMemory)
-    }
+    wrapped_in(ty, z)
 }
 
 fn wrapped_in(ty: Ty, z: i128) -> i128

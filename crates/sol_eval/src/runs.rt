@@ -1,9 +1,11 @@
 // Runs of scripts.
 
-ghost use Rattle.std.specs.Prelude.{◌≡◌, IfOk, None};
+ghost use Rattle.std.specs.List.{list_all};
+ghost use Rattle.std.specs.Prelude.{◌≡◌, IsTrue, IfOk, None};
 ghost use Rattle.sol_meaning.specs.Run.{run, ran, call_each, call_once, settled};
 ghost use Rattle.sol_eval.specs.Ran.{Ran};
 ghost use Rattle.sol_eval.specs.Runs.{IsRun};
+ghost use Rattle.sol_eval.specs.Sized.{fun_sized, is_sized};
 
 use crate::calls::call_door;
 use crate::deployment::{build_all, fresh};
@@ -14,9 +16,10 @@ use sol_core::{Call, Program, Script};
 use sol_meaning::{End, World};
 use std::alloc::Global;
 
-/// A script's run with a number of turns. `NoMemory` also stands for an operation or a conversion in a type that has
-/// none of Solidity's sizes.
+/// A script's run with a number of turns.
+#[tactic(auto, using(crate::proofs::Sizes::programs))]
 pub fn run(alloc: Global, p: &Program, s: &Script, turns: u32) -> Result<Run, NoMemory>
+    requires { IsTrue (is_sized p.now) }
     ensures { IfOk result (λ r. IsRun (run p.now s.now turns) r) }
 {
     let mut w = fresh(alloc, p, s, turns)?;
@@ -41,6 +44,7 @@ fn undeployed(w: World, cut: bool) -> Result<Run, NoMemory>
 }
 
 fn run_calls(alloc: Global, p: &Program, calls: &[Call], w: World) -> Result<Run, NoMemory>
+    requires { IsTrue (list_all fun_sized p.now.funs) }
     ensures { IfOk result (λ r. IsRun (ran (call_each p.now calls.now w)) r) }
 {
     let mut w = w;
@@ -61,6 +65,7 @@ fn ended(w: World, cut: bool) -> Result<Run, NoMemory>
 
 // Calls one after another, until the run is cut: whether it was.
 fn call_each(alloc: Global, p: &Program, calls: &[Call], w: &mut World) -> Result<bool, NoMemory>
+    requires { IsTrue (list_all fun_sized p.now.funs) }
     ensures { Ran (call_each p.now calls.now w.old) result w.new }
 {
     for c in calls {
@@ -74,6 +79,7 @@ fn call_each(alloc: Global, p: &Program, calls: &[Call], w: &mut World) -> Resul
 // Only scalars are ever written, so they alone are kept for a revert.
 #[tactic(auto, using(crate::proofs::Restored::restored))]
 fn call_once(alloc: Global, p: &Program, c: &Call, w: &mut World) -> Result<bool, NoMemory>
+    requires { IsTrue (list_all fun_sized p.now.funs) }
     ensures { Ran (call_once p.now c.now w.old) result w.new }
 {
     let before = w.state.scalars.copy(alloc)?;

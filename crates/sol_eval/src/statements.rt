@@ -1,9 +1,11 @@
 // What statements do.
 
-ghost use Rattle.std.specs.Prelude.{◌≡◌, slice_set};
+ghost use Rattle.std.specs.Prelude.{◌≡◌, slice_set, IsTrue};
+ghost use Rattle.std.specs.List.{list_all};
 ghost use Rattle.sol_meaning.specs.Eval.{eval};
 ghost use Rattle.sol_meaning.specs.Exec.{exec, exec_all, after_value, write, required, asserted};
 ghost use Rattle.sol_eval.specs.Ran.{Ran, Kept};
+ghost use Rattle.sol_eval.specs.Sized.{expr_sized, stmt_sized};
 
 use crate::numbers::is_zero;
 use crate::values::{eval, panic};
@@ -13,6 +15,7 @@ use sol_meaning::{End, Got, World};
 
 /// Statements one after another.
 pub fn exec_all(ss: &[Stmt], w: &mut World) -> Result<End, NoMemory>
+    requires { IsTrue (list_all stmt_sized ss.now) }
     ensures ran { Ran (exec_all ss.now w.old) result w.new }
     ensures kept { Kept w.old.state w.new.state }
 {
@@ -25,8 +28,9 @@ pub fn exec_all(ss: &[Stmt], w: &mut World) -> Result<End, NoMemory>
     Ok(End::Normal)
 }
 
-#[tactic(auto, using(sol_meaning::proofs::Statements::statements))]
+#[tactic(auto, using(sol_meaning::proofs::Statements::statements, crate::proofs::Sizes::forms))]
 fn exec(s: &Stmt, w: &mut World) -> Result<End, NoMemory>
+    requires { IsTrue (stmt_sized s.now) }
     ensures ran { Ran (exec s.now w.old) result w.new }
     ensures kept { Kept w.old.state w.new.state }
 {
@@ -53,6 +57,7 @@ fn exec(s: &Stmt, w: &mut World) -> Result<End, NoMemory>
 }
 
 fn exec_set(place: &Place, e: &Expr, w: &mut World) -> Result<End, NoMemory>
+    requires { IsTrue (expr_sized e.now) }
     ensures ran { Ran (after_value (eval e.now w.old) (λ n v. write place.now n v)) result w.new }
     ensures kept { Kept w.old.state w.new.state }
 {
@@ -85,6 +90,7 @@ fn set(all: &mut List<i128>, at: u32, n: i128)
 }
 
 fn exec_require(e: &Expr, w: &mut World) -> Result<End, NoMemory>
+    requires { IsTrue (expr_sized e.now) }
     ensures ran { Ran (after_value (eval e.now w.old) (λ n v. required n v)) result w.new }
     ensures kept { Kept w.old.state w.new.state }
 {
@@ -100,6 +106,7 @@ fn exec_require(e: &Expr, w: &mut World) -> Result<End, NoMemory>
 }
 
 fn exec_assert(e: &Expr, site: u32, w: &mut World) -> Result<End, NoMemory>
+    requires { IsTrue (expr_sized e.now) }
     ensures ran { Ran (after_value (eval e.now w.old) (λ n v. asserted site n v)) result w.new }
     ensures kept { Kept w.old.state w.new.state }
 {

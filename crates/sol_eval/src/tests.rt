@@ -1,5 +1,9 @@
 // Worked runs: a contract of one uint8 variable.
 
+ghost use Rattle.std.specs.Prelude.{IfOk, IsTrue};
+ghost use Rattle.std.specs.List.{list_all};
+ghost use Rattle.sol_eval.specs.Sized.{expr_sized, stmt_sized, fun_sized, is_sized};
+
 use crate::{Run, run};
 use chc_nums::{List, Name, NoMemory, Op, Ty};
 use sol_core::{Build, Call, Cmp, Expr, Fun, Marks, Place, Program, Script, Stmt};
@@ -10,7 +14,10 @@ use std::test::Fail;
 const BYTE: Ty = Ty::Uint(1);
 
 // x = x + n, whose overflow is a target.
-fn added(alloc: Global, n: i128, target: u32) -> Result<Stmt, NoMemory> {
+#[tactic(auto, using(crate::proofs::Sizes::sized))]
+fn added(alloc: Global, n: i128, target: u32) -> Result<Stmt, NoMemory>
+    ensures { IfOk result (λ s. IsTrue (stmt_sized s)) }
+{
     let marks = Marks {
         under: None,
         over: Some(target),
@@ -25,13 +32,19 @@ fn added(alloc: Global, n: i128, target: u32) -> Result<Stmt, NoMemory> {
 }
 
 // x < n
-fn below(alloc: Global, n: i128) -> Result<Expr, NoMemory> {
+#[tactic(auto, using(crate::proofs::Sizes::sized))]
+fn below(alloc: Global, n: i128) -> Result<Expr, NoMemory>
+    ensures { IfOk result (λ e. IsTrue (expr_sized e)) }
+{
     let x = Boxed::new(alloc, Expr::Scalar(0))?;
     let number = Boxed::new(alloc, Expr::Num(n, BYTE))?;
     Ok(Expr::Compare(Cmp::Lt, x, number))
 }
 
-fn fun(alloc: Global, body: List<Stmt>) -> Result<Fun, NoMemory> {
+fn fun(alloc: Global, body: List<Stmt>) -> Result<Fun, NoMemory>
+    requires { IsTrue (list_all stmt_sized body) }
+    ensures { IfOk result (λ f. IsTrue (fun_sized f)) }
+{
     Ok(Fun {
         name: Name::from_string(String::from_str(alloc, "f")?),
         params: 0,
@@ -43,7 +56,10 @@ fn fun(alloc: Global, body: List<Stmt>) -> Result<Fun, NoMemory> {
 }
 
 // Three functions: `x = x + 200;`, `x = 5; assert(x < 1);` and `x = 7; require(x < 1);`.
-fn functions(alloc: Global) -> Result<List<Fun>, NoMemory> {
+#[tactic(auto, using(crate::proofs::Sizes::sized))]
+fn functions(alloc: Global) -> Result<List<Fun>, NoMemory>
+    ensures { IfOk result (λ fs. IsTrue (list_all fun_sized fs)) }
+{
     let mut funs = List::new(alloc);
     let mut sum = List::new(alloc);
     sum.push(added(alloc, 200, 1)?)?;
@@ -59,7 +75,9 @@ fn functions(alloc: Global) -> Result<List<Fun>, NoMemory> {
     Ok(funs)
 }
 
-fn program(alloc: Global) -> Result<Program, NoMemory> {
+fn program(alloc: Global) -> Result<Program, NoMemory>
+    ensures { IfOk result (λ p. IsTrue (is_sized p)) }
+{
     let mut scalars = List::new(alloc);
     scalars.push(BYTE)?;
     let mut doors = List::new(alloc);

@@ -1,10 +1,11 @@
 // The values of expressions.
 
-ghost use Rattle.std.specs.Prelude.{◌≡◌};
+ghost use Rattle.std.specs.Prelude.{◌≡◌, IsTrue};
 ghost use Rattle.chc_nums.specs.Types.{judged};
 ghost use Rattle.sol_meaning.specs.declared.world.Got.TheVariants as got;
 ghost use Rattle.sol_meaning.specs.Eval.{eval, then_value, arithmetic, compared, truth, wrapped, panic};
 ghost use Rattle.sol_eval.specs.Ran.{Ran};
+ghost use Rattle.sol_eval.specs.Sized.{type_sized, expr_sized};
 
 use crate::numbers::{compared, judged, number_at, truth, wrapped};
 use chc_nums::{NoMemory, Num, Op, Ty};
@@ -38,16 +39,18 @@ fn arithmetic(n: Num, marks: Marks, w: &mut World) -> Result<Got, NoMemory>
 }
 
 fn cast(ty: Ty, x: i128, w: &mut World) -> Result<Got, NoMemory>
+    requires { IsTrue (type_sized ty) }
     ensures ran { Ran (got.Value (wrapped ty x), w.old) result w.new }
     ensures kept { w.new.state ≡ w.old.state }
 {
-    Ok(Got::Value(wrapped(ty, x)?))
+    Ok(Got::Value(wrapped(ty, x)))
 }
 
 /// The value of an expression.
 #[cycle(eval)]
-#[tactic(auto, using(sol_meaning::proofs::Values::values, crate::proofs::Checked::checked))]
+#[tactic(auto, using(sol_meaning::proofs::Values::values, crate::proofs::Checked::checked, crate::proofs::Sizes::expressions))]
 pub fn eval(e: &Expr, w: &mut World) -> Result<Got, NoMemory>
+    requires { IsTrue (expr_sized e.now) }
     ensures ran { Ran (eval e.now w.old) result w.new }
     ensures kept { w.new.state ≡ w.old.state }
 {
@@ -89,11 +92,13 @@ pub fn eval(e: &Expr, w: &mut World) -> Result<Got, NoMemory>
 
 #[cycle(eval)]
 fn arith_to(b: &Expr, op: Op, ty: Ty, x: i128, marks: Marks, w: &mut World) -> Result<Got, NoMemory>
+    requires operand { IsTrue (expr_sized b.now) }
+    requires size { IsTrue (type_sized ty) }
     ensures ran { Ran (then_value (eval b.now w.old) (λ y u. arithmetic (judged op ty x y) marks u)) result w.new }
     ensures kept { w.new.state ≡ w.old.state }
 {
     match eval(b, w)? {
-        Got::Value(y) => arithmetic(judged(op, ty, x, y)?, marks, w),
+        Got::Value(y) => arithmetic(judged(op, ty, x, y), marks, w),
         Got::Reverted => Ok(Got::Reverted),
         Got::Cut => Ok(Got::Cut),
     }
@@ -101,6 +106,7 @@ fn arith_to(b: &Expr, op: Op, ty: Ty, x: i128, marks: Marks, w: &mut World) -> R
 
 #[cycle(eval)]
 fn compare_to(b: &Expr, cmp: Cmp, x: i128, w: &mut World) -> Result<Got, NoMemory>
+    requires { IsTrue (expr_sized b.now) }
     ensures ran { Ran (then_value (eval b.now w.old) (λ y u. (got.Value (truth (compared cmp x y)), u))) result w.new }
     ensures kept { w.new.state ≡ w.old.state }
 {

@@ -1,14 +1,17 @@
-use Rattle.std.proofs.Common.{◌≡◌, sym, subst, ◌∙◌, ap, rules}
+use Rattle.std.proofs.Common.{◌≡◌, sym, subst, ◌∙◌, ap, rules, true}
 use Rattle.std.specs.Prelude.{FitsSigned}
 use Rattle.std.specs.Int.{w128}
 use Rattle.std.proofs.lemmas.Int.{to_z-of_z}
-use Rattle.sol_core.specs.declared.Expr.{Expr}
+use Rattle.sol_core.specs.declared.Expr.{Expr, Arith, Compare, Cast}
+use Rattle.sol_core.specs.declared.Expr.TheViews.{the_lemmas}
 use Rattle.sol_meaning.specs.declared.world.World.{World}
 use Rattle.sol_meaning.specs.declared.world.Got.{Got}
 use Rattle.sol_meaning.specs.declared.world.Got.TheVariants as got
 use Rattle.sol_meaning.specs.Eval.{eval}
 use Rattle.sol_eval.specs.Ran.{Ran}
+use Rattle.sol_eval.specs.Sized.{type_sized, expr_sized}
 use Rattle.sol_eval.proofs.Checked.{eval-first}
+use Rattle.sol_eval.proofs.Sizes.{arith-type, arith-first, arith-second, compare-first, compare-second, cast-value}
 use Rattle.sol_eval.proofs.values.+eval.Goals as goal
 
 pub eval-returns-in-Value-clause-ran : goal.eval-returns-in-Value-clause-ran
@@ -21,3 +24,28 @@ eval-returns-in-Value-clause-ran t c =
     let second = rw c.get-in-Value.ensures at exact in
     let P : Got × World → Type 0 = λ o. Ran o c.arith_to.result c.arith_to.new.w in
     subst P (sym all) second
+
+pub eval-eval-requires : goal.eval-eval-requires
+eval-eval-requires t c =
+    let sized : expr_sized (Arith c.in-Arith.op c.in-Arith.ty c.in-Arith.checked c.in-Arith.a c.in-Arith.b c.in-Arith.marks) ≡ true = ap expr_sized (sym c.in-Arith.is) ∙ c.requires in
+    (search (rules, the_lemmas), ap expr_sized c.get.ensures ∙ arith-first c.in-Arith.op c.in-Arith.ty c.in-Arith.checked c.in-Arith.a c.in-Arith.b c.in-Arith.marks sized)
+
+pub eval-arith_to-requires : goal.eval-arith_to-requires
+eval-arith_to-requires t c =
+    let sized : expr_sized (Arith c.in-Arith.op c.in-Arith.ty c.in-Arith.checked c.in-Arith.a c.in-Arith.b c.in-Arith.marks) ≡ true = ap expr_sized (sym c.in-Arith.is) ∙ c.requires in
+    (search (rules, the_lemmas), (ap expr_sized c.get-in-Value.ensures ∙ arith-second c.in-Arith.op c.in-Arith.ty c.in-Arith.checked c.in-Arith.a c.in-Arith.b c.in-Arith.marks sized, arith-type c.in-Arith.op c.in-Arith.ty c.in-Arith.checked c.in-Arith.a c.in-Arith.b c.in-Arith.marks sized))
+
+pub eval-eval-requires-in-Compare : goal.eval-eval-requires-in-Compare
+eval-eval-requires-in-Compare t c =
+    let sized : expr_sized (Compare c.in-Compare.cmp c.in-Compare.a c.in-Compare.b) ≡ true = ap expr_sized (sym c.in-Compare.is) ∙ c.requires in
+    (search (rules, the_lemmas), ap expr_sized c.get-in-Compare.ensures ∙ compare-first c.in-Compare.cmp c.in-Compare.a c.in-Compare.b sized)
+
+pub eval-compare_to-requires : goal.eval-compare_to-requires
+eval-compare_to-requires t c =
+    let sized : expr_sized (Compare c.in-Compare.cmp c.in-Compare.a c.in-Compare.b) ≡ true = ap expr_sized (sym c.in-Compare.is) ∙ c.requires in
+    (search (rules, the_lemmas), ap expr_sized c.get-in-Value-2.ensures ∙ compare-second c.in-Compare.cmp c.in-Compare.a c.in-Compare.b sized)
+
+pub eval-eval-requires-in-Cast : goal.eval-eval-requires-in-Cast
+eval-eval-requires-in-Cast t c =
+    let sized : expr_sized (Cast c.in-Cast.field-0 c.in-Cast.ty c.in-Cast.a) ≡ true = ap expr_sized (sym c.in-Cast.is) ∙ c.requires in
+    (search (rules, the_lemmas), ap expr_sized c.get-in-Cast.ensures ∙ cast-value c.in-Cast.field-0 c.in-Cast.ty c.in-Cast.a sized)

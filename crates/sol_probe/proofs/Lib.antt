@@ -1,0 +1,4 @@
+pub mod Choosing
+pub mod Filling
+pub mod FirstHits
+pub mod Fitting
