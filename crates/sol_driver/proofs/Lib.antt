@@ -1,6 +1,7 @@
-pub mod Numbers
 pub mod Writing
 pub mod Sources
+pub mod Sizes
+pub mod Proofs
 pub mod Reports
 pub mod Findings
 pub mod Outcomes

@@ -1,0 +1,36 @@
+-- The proofs of the last round pass.
+use Rattle.std.proofs.Common.{◌≡◌, ◌∙◌, sym, subst, refl, ℕ, suc, ◌==◌, List, [], ◌∷◌, ◌++◌, Bool, true, false, Option, Some, None, if◌then◌else◌}
+use lib.IntN.{ℤ}
+use Rattle.chc_form.specs.declared.Formula.{Formula}
+use Rattle.chc_form.specs.declared.Limits.{Limits}
+use Rattle.chc_form.specs.declared.Lin.{Lin}
+use Rattle.chc_form.specs.declared.Rule.{Rule}
+use Rattle.chc_form.specs.declared.System.{System}
+use Rattle.chc_form.specs.declared.Part.TheVariants as part
+use Rattle.chc_form.specs.declared.Lemma.{Lemma}
+use Rattle.chc_form.specs.Linear.{AllAscend}
+use Rattle.chc_form.specs.WellMade.{well_made}
+use Rattle.chc_simplex.specs.declared.Lp.{Lp}
+use Rattle.chc_simplex.specs.declared.Lp.TheVariants as lp
+use Rattle.chc_simplex.specs.TableauRun.{tableau_run}
+use Rattle.chc_cert.specs.Passing.{passes}
+use Rattle.chc_cert.proofs.Laws.{run-passes}
+use Rattle.chc_reduce.specs.Reduced.{reduced}
+use Rattle.chc_reduce.specs.Rows.{rows_of, is_plain, branch_of}
+use Rattle.chc_reduce.specs.Obligations.{Obligation, at_rules, for_lemmas, obligations}
+use Rattle.chc_reduce.proofs.Ordered.{reduced-ordered}
+use Rattle.chc_ask.specs.declared.Asked.{Asked}
+use Rattle.chc_ask.specs.declared.Asked.TheVariants as asked
+use Rattle.chc_ask.specs.Asked.{answered, pointed, left_open, asked_of}
+
+-- multipliers that were answered are those of the run
+answered-run : (plain : Bool) (b : List ℕ) (a : Lp) (ms : List ℤ) → answered plain b a ≡ asked.Refuted ms → a ≡ lp.Infeasible ms
+answered-run plain b (lp.Infeasible ns) ms e = let same : ns ≡ ms = cc in subst (λ (k : List ℤ). lp.Infeasible ns ≡ lp.Infeasible k) same refl
+answered-run true b (lp.Feasible x d) ms e = absurd (cc)
+answered-run false b (lp.Feasible x d) ms e = absurd (cc)
+answered-run plain b lp.Wide ms e = absurd (cc)
+answered-run plain b lp.Pivots ms e = absurd (cc)
+
+asked-passes : (l : Limits) (f : Formula) (ms : List ℤ) → AllAscend (rows_of f) → asked_of l f ≡ asked.Refuted ms → passes ms (rows_of f) ≡ true
+unfolding asked_of
+asked-passes l f ms a e = run-passes (rows_of f) l.pivots ms a (answered-run (is_plain f) (branch_of f) (tableau_run (rows_of f) l.pivots) ms e)

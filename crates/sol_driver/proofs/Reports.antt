@@ -1,0 +1,146 @@
+-- The report of a contract stands.
+use Rattle.std.proofs.Common.{◌≡◌, ◌∙◌, sym, ap, subst, refl, ◌+◌, ◌<◌, ◌≤◌, ℕ, zero, suc, List, [], ◌∷◌, ◌++◌, length, take, take_all, true, Option, Some, None, slice_get, arith, ◌⊎◌, inl, inr, Result, Ok, Err, IfOk}
+use lib.IntN.{ℤ}
+use Rattle.std.specs.List.{Contains, list_all}
+use Rattle.std.specs.Arc.{arc_value}
+use Rattle.chc_form.specs.declared.System.{System}
+use Rattle.chc_form.specs.declared.Part.TheVariants as part
+use Rattle.chc_form.specs.declared.Lemma.{Lemma}
+use Rattle.chc_form.specs.Formulas.{FormulaRefuted}
+use Rattle.chc_form.specs.Multipliers.{Refutes}
+use Rattle.chc_form.specs.Solving as solving
+use Rattle.chc_form.specs.Solving.{Solves}
+use Rattle.chc_form.specs.WellMade.{well_made, of_system}
+use Rattle.chc_reduce.specs.Reduced.{reduced}
+use Rattle.chc_reduce.specs.Rows.{rows_of}
+use Rattle.chc_reduce.proofs.Ordered.{reduced-ordered}
+use Rattle.chc_reduce.proofs.Truthful.{query-shown}
+use Rattle.chc_ask.specs.declared.Open.{Open}
+use Rattle.chc_ask.specs.declared.Asked.TheVariants as asked
+use Rattle.chc_ask.specs.Asked.{asked_of}
+use Rattle.chc_ask.specs.Open.{MeetsLimit, StaysOpen}
+use Rattle.chc_ask.proofs.Answers.{asked-refuted, asked-open, open-meets}
+use Rattle.chc_houdini.specs.declared.RoundStop.{RoundStop}
+use Rattle.chc_encode.specs.Sound.{Sound, Exact, Asks}
+use Rattle.chc_encode.specs.Systems.{system_of}
+use Rattle.chc_encode.proofs.Laws.{sound, exact, asks}
+use Rattle.chc_templates.specs.Candidates.{candidates_of}
+use Rattle.chc_houdini.specs.Drops.{kept}
+use Rattle.pool_state.specs.Content.{Content}
+use Rattle.sol_core.specs.declared.Program.{Program}
+use Rattle.sol_core.specs.declared.Script.{Script}
+use Rattle.sol_meaning.specs.Fits.{Fits}
+use Rattle.sol_probe.specs.FirstHit.{IsFirstHit}
+use Rattle.sol_probe.specs.Probes.{probes}
+use Rattle.sol_probe.proofs.Fitting.{probes-fit}
+use Rattle.sol_first.specs.declared.Contract.{Contract}
+use Rattle.sol_first.specs.Typed.{IsTyped}
+use Rattle.sol_first.specs.Elaborated.{program_of}
+use Rattle.sol_tree.specs.declared.file.File.{File}
+use Rattle.sol_reader.specs.Language.{IsFirst}
+use Rattle.sol_report.specs.declared.Stop.{Stop}
+use Rattle.sol_report.specs.declared.Stop.TheVariants as stop
+use Rattle.sol_report.specs.declared.Verdict.{Verdict}
+use Rattle.sol_report.specs.declared.Verdict.TheVariants as verdict
+use Rattle.sol_report.specs.declared.Report.{Report}
+use Rattle.sol_driver.specs.Refusals.{HasTree}
+use Rattle.sol_driver.specs.Verdicts.{Basis, query_under, IsOpen, first_of_limit, StopStands, IsSafe, IsUnsafe, IsUnknown, VerdictStands, VerdictsStand, limits}
+use Rattle.sol_driver.specs.Stands.{IsSystemOf, IsFirstBatch, IsPoolOf, basis_of, Stands}
+use Rattle.sol_driver.specs.Found.{stop_by, VerdictFound, VerdictsFound, ReportFound}
+
+-- what verdicts need of what they rest on: the system is well made and sound, and the pool holds the kept lemmas, which solve it
+record Rests (b : Basis) : Type 0 where
+  well : well_made b.system ≡ true
+  sound : Sound b.system b.program
+  of : list_all (of_system b.system) b.pool ≡ true
+  solves : Solves b.system b.pool
+  same : b.kept ≡ b.pool
+
+take-whole : {A : Type 0} → (xs : List A) (n : ℕ) → n ≡ length xs → take n xs ≡ xs
+take-whole xs n e = take_all n xs (omega arith)
+
+-- the formula of a target's query under the pool is refuted, so lemmas refute the query
+query-refuted : (s : System) (t : ℕ) (ls : List Lemma) → FormulaRefuted (reduced s (part.Query t) None ls) → solving.Refutes s t ls
+query-refuted s t ls r = λ q at v h. query-shown s t q ls v at h r
+
+safe-stands : (b : Basis) (t : ℕ) (ms : List ℤ) (n : ℕ) → Rests b → n ≡ length b.pool → asked_of limits (query_under b t b.pool) ≡ asked.Refuted ms → IsSafe b t ms n
+safe-stands b t ms n h e a =
+    let both : Refutes ms (rows_of (query_under b t b.pool)) × FormulaRefuted (query_under b t b.pool) = asked-refuted limits (query_under b t b.pool) ms (reduced-ordered b.system (part.Query t) None b.pool h.well) a in
+    record {
+      within = omega arith;
+      refutes = subst (λ (ls : List Lemma). Refutes ms (rows_of (query_under b t ls))) (sym (take-whole b.pool n e)) both.0;
+      never = λ x k fit v. h.sound b.pool h.of h.solves t (query-refuted b.system t b.pool both.1) x fit k v;
+    }
+
+contains-middle : {A : Type 0} → (before : List A) (x : A) (after : List A) → Contains (before ++ x ∷ after) x
+contains-middle [] x after = (0, omega arith, refl)
+contains-middle (y ∷ before) x after = let i = contains-middle before x after in (suc i.0, omega (arith, i.1), i.2)
+
+unsafe-stands : (b : Basis) (t : ℕ) (x : Script) (n : ℕ) → n ≡ 1024 → IsFirstHit b.program t (Some x) → IsUnsafe b t x n
+unsafe-stands b t x n e h = record {
+  turns = e;
+  fits = probes-fit b.program x (subst (λ (ps : List Script). Contains ps x) (sym h.2) (contains-middle h.0 x h.1));
+  violates = h.3;
+  first = h;
+}
+
+stop-stands : (b : Basis) (t : ℕ) (o : Open) (d : Option RoundStop) → first_of_limit b.drops ≡ d → StaysOpen limits (query_under b t b.kept) o → StopStands b t (stop_by d o)
+stop-stands b t o None e h = (e, h)
+stop-stands b t o (Some d) e h = e
+
+unknown-stands : (b : Basis) (t : ℕ) (s : Stop) (o : Open) (seen tries : ℕ) → Rests b → asked_of limits (query_under b t b.pool) ≡ asked.Open o → IsFirstHit b.program t None → s ≡ stop_by (first_of_limit b.drops) o → seen ≡ 0 → tries ≡ 0 → IsUnknown b t s o seen tries
+unknown-stands b t s o seen tries h a none e x y =
+    let stays : StaysOpen limits (query_under b t b.pool) o = asked-open limits (query_under b t b.pool) o (reduced-ordered b.system (part.Query t) None b.pool h.well) a in
+    let kept_stays : StaysOpen limits (query_under b t b.kept) o = subst (λ (ls : List Lemma). StaysOpen limits (query_under b t ls) o) (sym h.same) stays in
+    record {
+      under_kept = open-meets limits (query_under b t b.kept) o kept_stays;
+      under_pool = open-meets limits (query_under b t b.pool) o stays;
+      no_probe = none;
+      templates_stop = subst (StopStands b t) (sym e) (stop-stands b t o (first_of_limit b.drops) refl kept_stays);
+      pool_stop = stays;
+      nothing_seen = x;
+      nothing_tried = y;
+    }
+
+verdict-stands : (b : Basis) (t : ℕ) (v : Verdict) → Rests b → VerdictFound b.program b.system b.drops b.pool t v → VerdictStands b t v
+verdict-stands b t (verdict.Safe ms n) h f = safe-stands b t ms n h f.0 f.1
+verdict-stands b t (verdict.Unsafe x n) h f = unsafe-stands b t x n f.0 f.1
+verdict-stands b t (verdict.Unknown s o seen tries) h f = unknown-stands b t s o seen tries h f.0 f.1 f.2 f.3 f.4
+
+verdicts-stand : (b : Basis) (t : ℕ) (vs : List (ℕ × Verdict)) → Rests b → VerdictsFound b.program b.system b.drops b.pool t vs → VerdictsStand b t vs
+verdicts-stand b t [] h f = tt
+verdicts-stand b t (v ∷ vs) h f = (f.0, verdict-stands b t v.1 h f.1, verdicts-stand b (suc t) vs h f.2)
+
+-- the pool holds the kept lemmas
+pool-same : (ls : List Lemma) (c : Content) → IsFirstBatch ls c → ls ≡ c.lemmas
+pool-same [] c h = sym h.1
+pool-same (l ∷ ls) c h = sym h.1
+
+system-of : (c : Contract) (s : System) (p : Program) → IsTyped c → well_made (system_of c) ≡ true → s ≡ system_of c → p ≡ program_of c → IsSystemOf s p
+system-of c s p t w e f =
+    subst (λ (x : System). IsSystemOf x p) (sym e) (subst (IsSystemOf (system_of c)) (sym f) (record { well = w; sound = sound c t w; exact = exact c t; asks = asks c }))
+
+pub report-stands : (text : List ℕ) (f : File) (c : Contract) (r : Report) → HasTree text f → IsFirst text f c → ReportFound c r → Stands text r
+report-stands text f c r source first h =
+    let system : IsSystemOf (arc_value r.system) r.program = system-of c (arc_value r.system) r.program first.good.typed h.well h.system h.program in
+    record {
+      file = f;
+      source = source;
+      contract = c;
+      first = first;
+      program = h.program;
+      system = system;
+      rounds = h.rounds;
+      drops = h.drops;
+      pool = h.pool;
+      verdicts = verdicts-stand (basis_of r) 0 r.verdicts (record {
+        well = system.well;
+        sound = system.sound;
+        of = h.pool.of;
+        solves = h.pool.solves;
+        same = pool-same (kept r.drops (candidates_of (arc_value r.system))) r.pool h.pool.first;
+      }) h.verdicts;
+      targets = h.targets;
+    }
+
+pub ruleset reports = (report-stands)

@@ -1,0 +1,9 @@
+use Rattle.std.proofs.Common.{◌≡◌, length}
+use Rattle.sol_driver.specs.Found.{VerdictsFound}
+use Rattle.sol_driver.proofs.judge.judge.Given as goal
+
+abbrev pub invariant-loop-_site : goal.invariant-loop-_site
+invariant-loop-_site l = record {
+  found : VerdictsFound l.program l.system l.drops l.lemmas 0 l.verdicts;
+  count : length l.verdicts ≡ l._site-index;
+}
