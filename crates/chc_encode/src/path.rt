@@ -254,7 +254,8 @@ fn assign(variables: &[Variable], path: &mut Path, to: u32) -> Result<(), NoMemo
     ensures { OnOk result (path.new ≡ assigned variables.now path.old to []) }
 {
     let held = next_at(path)?;
-    path.sorts.push(Sort::Whole(Ty::Uint(size_at(variables, to))))?;
+    path.sorts
+        .push(Sort::Whole(Ty::Uint(size_at(variables, to))))?;
     if (to as usize) < path.current.len() {
         path.current.set(to as usize, held);
     }

@@ -30,7 +30,11 @@ fn passed(system: System) -> Result<System, NoMemory>
     ensures same { IfOk result (λ s. s ≡ system) }
     ensures well { IfOk result (λ s. well_made s ≡ true) }
 {
-    if well_made(&system) { Ok(system) } else { Err(NoMemory) }
+    if well_made(&system) {
+        Ok(system)
+    } else {
+        Err(NoMemory)
+    }
 }
 
 fn system_of(alloc: Global, contract: &Contract) -> Result<System, NoMemory>
@@ -128,7 +132,6 @@ fn constraint(row: Row) -> Con
 // ---- functions
 
 // A rule for each function, and a query for each target.
-#[tactic(auto, using(crate::proofs::Queries::growth))]
 fn add_functions(
     alloc: Global,
     variables: &[Variable],
@@ -142,7 +145,7 @@ fn add_functions(
     ensures queries { OnOk result (queries.new ≡ queries.old ++ queries_of variables.now (length queries.old) functions.now) }
 {
     for function in functions {
-        add_function(alloc, variables, function.steps.as_slice(), rules, queries)?;
+        add_function(alloc, variables, function, rules, queries)?;
     }
     Ok(())
 }
@@ -151,17 +154,23 @@ fn add_functions(
 fn add_function(
     alloc: Global,
     variables: &[Variable],
-    steps: &[Step],
+    function: &Function,
     rules: &mut List<Rule>,
     queries: &mut List<Query>,
 ) -> Result<(), NoMemory>
     requires sizes { All (λ v. IsSize v.size) variables.now }
-    requires typed { All (StepTyped variables.now) steps.now }
-    ensures rules { OnOk result (rules.new ≡ rules.old ++ rule_at variables.now (after_all variables.now steps.now (entry variables.now)) ∷ []) }
-    ensures queries { OnOk result (queries.new ≡ queries.old ++ queries_of_steps variables.now (length queries.old) steps.now (entry variables.now)) }
+    requires typed { All (StepTyped variables.now) function.now.steps }
+    ensures rules { OnOk result (rules.new ≡ rules.old ++ rule_of variables.now function.now ∷ []) }
+    ensures queries { OnOk result (queries.new ≡ queries.old ++ queries_of_steps variables.now (length queries.old) function.now.steps (entry variables.now)) }
 {
     let mut path = entry(alloc, variables)?;
-    add_steps(alloc, variables, steps, &mut path, queries)?;
+    add_steps(
+        alloc,
+        variables,
+        function.steps.as_slice(),
+        &mut path,
+        queries,
+    )?;
     rules.push(rule_at(alloc, variables, path)?)
 }
 
