@@ -1,5 +1,6 @@
 pub mod Bodies
 pub mod Computes
+pub mod Examples
 pub mod Follows
 pub mod Forms
 pub mod Laws

@@ -7,6 +7,8 @@ mod law;
 mod path;
 mod rows;
 mod rules;
+#[cfg(test)]
+mod tests;
 
 pub use law::encoding_law;
 pub use rules::encode;
