@@ -1,5 +1,5 @@
 -- The statements of a function from its entry on, and the queries of the targets in them.
-use Rattle.std.proofs.Common.{◌≡◌, ◌∙◌, sym, ap, subst, refl, ℕ, zero, suc, ◌+◌, ◌<◌, List, [], ◌∷◌, ◌++◌, length, map, arith, ◌⊎◌, inl, inr, Option, Some, None, slice_get, option_map, option_to_list}
+use Rattle.std.proofs.Common.{◌≡◌, sym, ap, subst, refl, ℕ, zero, suc, ◌+◌, ◌<◌, List, [], ◌∷◌, ◌++◌, length, arith, ◌⊎◌, inl, inr, Option, Some, None, slice_get, option_map, option_to_list}
 use lib.IntN.{ℤ}
 use Rattle.std.specs.List.{All}
 use Rattle.std.proofs.lemmas.List.{length-map}
@@ -21,9 +21,9 @@ use Rattle.sol_meaning.specs.declared.End.TheVariants as done
 use Rattle.sol_meaning.specs.Eval.{number_at}
 use Rattle.sol_meaning.specs.Exec.{Done, exec, exec_all, after_normal}
 use Rattle.chc_encode.specs.declared.path.Path.{Path}
-use Rattle.chc_encode.specs.PathRows.{now_at, next_at, entry, sorts_of, after, after_all, target}
+use Rattle.chc_encode.specs.PathRows.{entry, sorts_of, after, after_all, target}
 use Rattle.chc_encode.specs.Systems.{at_entry, query_at, own_query, queries_of_steps}
-use Rattle.chc_encode.proofs.Valuations.{AllHold, hold-append}
+use Rattle.chc_encode.proofs.Valuations.{hold-append}
 use Rattle.chc_encode.proofs.Places.{point, entry-sorts, entry-now, cons-hold}
 use Rattle.chc_encode.proofs.Queries.{own-count}
 use Rattle.chc_encode.proofs.Steps.{Fitting, Agrees, Reached, Stepped, step-done}

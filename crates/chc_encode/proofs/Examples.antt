@@ -1,6 +1,5 @@
 -- The contracts of the tests are well typed.
-use Rattle.std.proofs.Common.{◌≡◌, sym, subst, ℕ, ◌<◌, ◌≤◌, List, [], ◌∷◌, length, pos, ◌≤ℤ◌, arith}
-use lib.IntN.{ℤ}
+use Rattle.std.proofs.Common.{◌≡◌, sym, subst, ℕ, List, [], ◌∷◌, pos, arith}
 use Rattle.std.specs.List.{All}
 use Rattle.std.proofs.lemmas.Int.{ints}
 use Rattle.std.proofs.lemmas.List.Elements.{All-nil, All-cons, All-same}
@@ -11,7 +10,7 @@ use Rattle.sol_first.specs.declared.Step.{Step}
 use Rattle.sol_first.specs.declared.Step.TheVariants as step
 use Rattle.sol_first.specs.declared.Function.{Function}
 use Rattle.sol_first.specs.declared.Contract.{Contract}
-use Rattle.sol_first.specs.Typed.{IsDeclared, IsValue, StepTyped, IsTyped}
+use Rattle.sol_first.specs.Typed.{StepTyped, IsTyped}
 
 typed : (c : Contract) (vs : List Variable) (fs : List Function) → c.variables ≡ vs → c.functions ≡ fs → All (λ v. IsSize v.size) vs → All (λ f. All (StepTyped vs) f.steps) fs → IsTyped c
 typed c vs fs e g sizes steps =

@@ -1,5 +1,5 @@
 -- What the rules of a contract say of its program.
-use Rattle.std.proofs.Common.{◌≡◌, ◌∙◌, ℕ, ◌+◌, arith, true}
+use Rattle.std.proofs.Common.{◌≡◌, ◌∙◌, ◌+◌, arith, true}
 use Rattle.chc_form.specs.WellMade.{well_made}
 use Rattle.chc_form.proofs.Deriving.{derived-not_refuted}
 use Rattle.sol_first.specs.declared.Contract.{Contract}

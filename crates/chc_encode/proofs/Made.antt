@@ -1,5 +1,5 @@
 -- Each query has its target's number, and asks at the values at entry.
-use Rattle.std.proofs.Common.{◌≡◌, ◌∙◌, sym, subst, refl, ℕ, zero, suc, ◌+◌, List, [], ◌∷◌, ◌++◌, length, arith, Option, Some, None, slice_get, option_map, option_to_list}
+use Rattle.std.proofs.Common.{◌≡◌, subst, refl, ℕ, zero, suc, ◌+◌, List, [], ◌∷◌, ◌++◌, length, arith, Option, Some, None, slice_get, option_map, option_to_list}
 use Rattle.chc_form.specs.declared.Row.{Row}
 use Rattle.chc_form.specs.declared.Query.{Query}
 use Rattle.sol_first.specs.declared.Variable.{Variable}

@@ -1,5 +1,5 @@
 -- What variables stand for, sort by sort, and the places of lists.
-use Rattle.std.proofs.Common.{◌≡◌, ◌≢◌, ◌∙◌, sym, ap, subst, refl, ℕ, zero, suc, ◌+◌, ◌<◌, List, [], ◌∷◌, ◌++◌, length, map, pos, arith, ◌⊎◌, inl, inr, Option, Some, None, slice_get, unwrap_or}
+use Rattle.std.proofs.Common.{◌≡◌, ◌∙◌, sym, ap, subst, refl, ℕ, zero, suc, ◌+◌, ◌<◌, List, [], ◌∷◌, ◌++◌, length, map, pos, arith, ◌⊎◌, inl, inr, Some, slice_get, unwrap_or}
 use lib.IntN.{ℤ}
 use Rattle.std.specs.List.{range_with_len, Contains, slice_index_or}
 use Rattle.std.proofs.lemmas.Option.{unwrap_or-slice_get}

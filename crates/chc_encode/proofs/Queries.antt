@@ -1,10 +1,9 @@
 -- How many queries there are, and how they grow.
-use Rattle.std.proofs.Common.{◌≡◌, ◌∙◌, sym, ap, subst, refl, ℕ, zero, suc, ◌+◌, List, [], ◌∷◌, ◌++◌, length, map, drop, ◌<◌, arith, Option, Some, None, slice_get, length-append, append_assoc, inl, inr, ◌⊎◌}
+use Rattle.std.proofs.Common.{◌≡◌, ◌∙◌, sym, ap, refl, ℕ, suc, ◌+◌, List, [], ◌∷◌, ◌++◌, length, map, drop, ◌<◌, arith, length-append, append_assoc}
 use Rattle.std.proofs.Math.ListN.{get_or}
 use Rattle.std.proofs.Math.Seq.{drop-cons}
 use Rattle.chc_form.specs.declared.Rule.{Rule}
 use Rattle.chc_form.specs.declared.Query.{Query}
-use Rattle.chc_form.specs.declared.Row.{Row}
 use Rattle.sol_first.specs.declared.Variable.{Variable}
 use Rattle.sol_first.specs.declared.Step.{Step}
 use Rattle.sol_first.specs.declared.Step.TheVariants as step

@@ -1,5 +1,5 @@
 -- What is derived is reached: calls, one per rule, that lead to the values, and a last one that hits a target.
-use Rattle.std.proofs.Common.{◌≡◌, ◌∙◌, sym, ap, subst, refl, ℕ, zero, suc, ◌+◌, ◌-◌, ◌<◌, ◌==◌, cond, List, [], ◌∷◌, ◌++◌, length, map, pos, arith, Bool, true, false, ◌&&◌, ◌⊎◌, inl, inr, Option, Some, None, slice_get, option_map, option_to_list, length-append, IsTrue}
+use Rattle.std.proofs.Common.{◌≡◌, ◌∙◌, sym, ap, subst, refl, ℕ, zero, suc, ◌+◌, ◌-◌, ◌<◌, ◌==◌, cond, List, [], ◌∷◌, ◌++◌, length, map, pos, arith, Bool, true, false, ◌&&◌, ◌⊎◌, inl, inr, Option, Some, None, slice_get, option_map, option_to_list, length-append}
 use lib.IntN.{ℤ}
 use Rattle.std.specs.List.{All, Contains, slice_index_or, range_with_len, list_all}
 use Rattle.std.proofs.lemmas.Int.{ints}
@@ -22,7 +22,7 @@ use Rattle.sol_core.specs.declared.Program.{Program}
 use Rattle.sol_core.specs.declared.Script.{Script}
 use Rattle.sol_core.specs.declared.Fun.{Fun}
 use Rattle.sol_core.specs.declared.Reply.{Reply}
-use Rattle.sol_core.specs.declared.Call.{Call, out-Call, roll-Call, out-roll-Call}
+use Rattle.sol_core.specs.declared.Call.{Call, roll-Call, out-roll-Call}
 use Rattle.sol_core.specs.declared.Call.TheOpen.{Call-F}
 use Rattle.sol_core.specs.declared.Call.TheFolds.{fold-roll-Call}
 use Rattle.sol_first.specs.declared.Variable.{Variable}
@@ -39,14 +39,14 @@ use Rattle.sol_meaning.specs.Exec.{exec, exec_all, finished, called}
 use Rattle.sol_meaning.specs.Fits.{takes_args, is_sender, each, call_fits, Fits}
 use Rattle.sol_meaning.specs.Run.{fun_at, door, settled, call_once, go_on, call_each, fresh, Violates}
 use Rattle.chc_encode.specs.declared.path.Path.{Path}
-use Rattle.chc_encode.specs.PathRows.{now_at, entry, after, after_all, target}
-use Rattle.chc_encode.specs.Systems.{at_entry, cons_of, zeros_from, zero_rule, rule_at, rule_of, query_at, own_query, queries_of_steps, queries_of, system_of}
+use Rattle.chc_encode.specs.PathRows.{entry, after, after_all, target}
+use Rattle.chc_encode.specs.Systems.{at_entry, zeros_from, zero_rule, rule_of, query_at, own_query, queries_of_steps, queries_of, system_of}
 use Rattle.chc_encode.proofs.Valuations.{AllHold, plus-value, minus-value}
 use Rattle.chc_encode.proofs.Places.{entry-now, hold-cons}
 use Rattle.chc_encode.proofs.Queries.{own-count, steps-count}
 use Rattle.chc_encode.proofs.Made.{IsMade, queries-made, made-at}
 use Rattle.chc_encode.proofs.Steps.{Fitting, Reached}
-use Rattle.chc_encode.proofs.Runs.{zeros, zero-at, zeros-fit}
+use Rattle.chc_encode.proofs.Runs.{zero-at, zeros-fit}
 use Rattle.chc_encode.proofs.Follows.{hold-left, hold-right, Stands, Went, Struck, step-goes, step-strikes, then-strikes, struck-stays, after-before, body-goes}
 
 -- ---- a query whose constraints are true

@@ -1,7 +1,7 @@
 -- Calls and whole scripts: each target that is hit is derived.
 use Rattle.std.proofs.Common.{◌≡◌, ◌∙◌, sym, ap, subst, refl, ℕ, zero, suc, ◌+◌, ◌-◌, ◌<◌, ◌==◌, cond, List, [], ◌∷◌, ◌++◌, length, map, pos, arith, Bool, true, false, inl, inr, Option, Some, None, slice_get}
 use lib.IntN.{ℤ}
-use Rattle.std.specs.List.{All, Contains, slice_index_or, range_with_len}
+use Rattle.std.specs.List.{All, Contains, range_with_len}
 use Rattle.std.proofs.lemmas.Int.{ints}
 use Rattle.std.proofs.lemmas.List.{length-map}
 use Rattle.std.proofs.lemmas.List.Elements.{All-head, All-tail, Contains-push_cases}
@@ -27,7 +27,7 @@ use Rattle.sol_meaning.specs.Eval.{number_at}
 use Rattle.sol_meaning.specs.Exec.{exec_all, finished, called}
 use Rattle.sol_meaning.specs.Run.{fun_at, door, settled, call_once, go_on, call_each, fresh, Violates}
 use Rattle.chc_encode.specs.PathRows.{sorts_of, entry, after_all}
-use Rattle.chc_encode.specs.Systems.{at_entry, zeros_from, zero_rule, rule_at, rule_of, queries_of_steps, queries_of, system_of}
+use Rattle.chc_encode.specs.Systems.{at_entry, zeros_from, zero_rule, rule_of, queries_of_steps, queries_of, system_of}
 use Rattle.chc_encode.proofs.Valuations.{plus-value, minus-value}
 use Rattle.chc_encode.proofs.Places.{point, entry-sorts, entry-now, cons-hold, contains-head, contains-tail, contains-map}
 use Rattle.chc_encode.proofs.Queries.{steps-count}

@@ -1,6 +1,6 @@
 -- The path through the statements of a function, as linear inequalities. The row variables are the state variables at
 -- entry, and then one per assignment; a variable's range is its sort. The rows are what the statements say, in order.
-use Rattle.std.specs.Prelude.{ℕ, suc, List, [], ◌∷◌, ◌++◌, length, Option, Some, None, slice_get, slice_set, unwrap_or, map, pos, ◌+ℤ◌, ◌-ℤ◌, neg_ℤ}
+use Rattle.std.specs.Prelude.{ℕ, List, [], ◌∷◌, ◌++◌, length, Option, Some, None, slice_get, slice_set, unwrap_or, map, pos, ◌+ℤ◌, ◌-ℤ◌, neg_ℤ}
 use Rattle.std.specs.List.{range_with_len}
 use lib.IntN.{ℤ, negsuc}
 use Rattle.chc_nums.specs.declared.Ty.TheVariants as ty

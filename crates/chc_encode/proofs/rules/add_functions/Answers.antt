@@ -1,5 +1,4 @@
-use Rattle.std.proofs.Common.{◌≡◌, ◌++◌, ◌∷◌, ◌+◌, ◌<◌, List, length, drop, map, arith}
-use Rattle.sol_first.specs.declared.Function.{Function}
+use Rattle.std.proofs.Common.{◌≡◌, ◌++◌, ◌∷◌, ◌+◌, length, drop, map, arith}
 use Rattle.chc_encode.specs.Systems.{rule_of, queries_of}
 use Rattle.chc_encode.proofs.Queries.{drop-at, rules-go, queries-go}
 use Rattle.chc_encode.proofs.rules.add_functions.Goals as goal
