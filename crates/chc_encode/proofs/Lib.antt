@@ -1,0 +1,13 @@
+pub mod Bodies
+pub mod Computes
+pub mod Examples
+pub mod Follows
+pub mod Forms
+pub mod Laws
+pub mod Made
+pub mod Places
+pub mod Queries
+pub mod Reaches
+pub mod Runs
+pub mod Steps
+pub mod Valuations

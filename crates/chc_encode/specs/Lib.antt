@@ -1,0 +1,4 @@
+pub mod PathRows
+pub mod Sizes
+pub mod Sound
+pub mod Systems

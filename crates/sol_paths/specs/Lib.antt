@@ -1,4 +1,0 @@
-pub mod Formed
-pub mod PathRows
-pub mod Points
-pub mod Sizes
