@@ -93,7 +93,7 @@ corners-of t true e =
     let at_one : P (pos 1) = between t (pos 1) (omega (arith, ints)) high in
     let at_greatest : P (greatest t) = between t (greatest t) (omega (arith, ints)) (omega (arith, ints)) in
     each-unless P (int_eq (least t) (pos 0)) (least t) (pos 0 ∷ unless (int_eq (greatest t) (pos 1)) (pos 1) (greatest t ∷ [])) at_least
-      (at_zero, each-unless P (int_eq (greatest t) (pos 1)) (pos 1) (greatest t ∷ []) at_one (at_greatest, tt))
+    (at_zero, each-unless P (int_eq (greatest t) (pos 1)) (pos 1) (greatest t ∷ []) at_one (at_greatest, tt))
 
 corners-fit : (t : Ty) → Each (λ v. in_range t v ≡ true) (corners t)
 unfolding corners
@@ -127,9 +127,9 @@ deployments-fit : (p : Program) → Each (Deploys p) (deployments p)
 unfolding deployments
 deployments-fit p =
     by-senders (λ vs. takes p.params vs ≡ true) (Deploys p) deployed_by
-      (λ s cs i g. each-map (Deploys p) (λ args. record { sender = s; args = args; calls = [] }) cs
-        (each-more (λ vs. takes p.params vs ≡ true) (λ vs. Deploys p (record { sender = s; args = vs; calls = [] })) (λ vs h. record { args = h; sender = i; alone = refl }) cs g))
-      (choices p.params) (choices-fit p.params)
+    (λ s cs i g. each-map (Deploys p) (λ args. record { sender = s; args = args; calls = [] }) cs
+    (each-more (λ vs. takes p.params vs ≡ true) (λ vs. Deploys p (record { sender = s; args = vs; calls = [] })) (λ vs h. record { args = h; sender = i; alone = refl }) cs g))
+    (choices p.params) (choices-fit p.params)
 
 -- a call that fits
 record Calls (p : Program) (c : PlainCall) : Type 0 where
@@ -143,9 +143,9 @@ calls_of-fit p d (Some f) e =
     let T : List ℤ → Type 0 = λ vs. takes (take f.params f.locals) vs ≡ true in
     let fits : (vs : List ℤ) → T vs → takes_args (door p d) vs ≡ true = λ vs h. ap (λ (o : Option Fun). takes_args o vs) e ∙ h in
     by-senders T (Calls p) (called_by d)
-      (λ s cs i g. each-map (Calls p) (λ args. record { door = d; sender = s; args = args }) cs
-        (each-more T (λ vs. Calls p (record { door = d; sender = s; args = vs })) (λ vs h. record { args = fits vs h; sender = i }) cs g))
-      (choices (take f.params f.locals)) (choices-fit (take f.params f.locals))
+    (λ s cs i g. each-map (Calls p) (λ args. record { door = d; sender = s; args = args }) cs
+    (each-more T (λ vs. Calls p (record { door = d; sender = s; args = vs })) (λ vs h. record { args = fits vs h; sender = i }) cs g))
+    (choices (take f.params f.locals)) (choices-fit (take f.params f.locals))
 
 calls_from-fit : (p : Program) (d : ℕ) (fs : List ℕ) → ((k : ℕ) → slice_get fs k ≡ slice_get p.doors (d + k)) → Each (Calls p) (calls_from p d fs)
 calls_from-fit p d [] h = tt
@@ -153,7 +153,7 @@ calls_from-fit p d (f ∷ fs) h =
     let here : slice_get p.doors d ≡ Some f = rw add-zero at (sym (h 0)) in
     let behind : door p d ≡ slice_get p.funs f = ap (fun_at p) here in
     each-append (Calls p) (calls_of d (slice_get p.funs f)) (calls_from p (d + 1) fs) (calls_of-fit p d (slice_get p.funs f) behind)
-      (calls_from-fit p (d + 1) fs (λ k. let next : d + 1 + k ≡ d + suc k = omega arith in h (suc k) ∙ ap (slice_get p.doors) (sym next)))
+    (calls_from-fit p (d + 1) fs (λ k. let next : d + 1 + k ≡ d + suc k = omega arith in h (suc k) ∙ ap (slice_get p.doors) (sym next)))
 
 calls-fit : (p : Program) → Each (Calls p) (calls p)
 unfolding calls
@@ -172,18 +172,18 @@ alone-fits p s h =
 with_call-fits : (p : Program) (s : Script) (c : PlainCall) → Deploys p s → Calls p c → Fits p (with_call s c)
 with_call-fits p s c h g =
     all-pass (takes p.params s.args && is_sender s.sender) (list_all (call_fits p) (with_call s c).calls) (all-pass (takes p.params s.args) (is_sender s.sender) h.args h.sender)
-      (all-pass (call_fits p (roll-Call (record { fun = c.door; sender = c.sender; args = c.args; replies = [] }))) true (called-fits p c g) refl)
+    (all-pass (call_fits p (roll-Call (record { fun = c.door; sender = c.sender; args = c.args; replies = [] }))) true (called-fits p c g) refl)
 
 all-fit : (p : Program) → Each (Fits p) (probes p)
 unfolding probes
 all-fit p =
     each-take (Fits p) 4096 (deployments p ++ flat_map (with_calls (calls p)) (deployments p))
-      (each-append (Fits p) (deployments p) (flat_map (with_calls (calls p)) (deployments p))
-        (each-more (Deploys p) (Fits p) (alone-fits p) (deployments p) (deployments-fit p))
-        (each-flat_map (Fits p) (with_calls (calls p)) (deployments p)
-          (each-more (Deploys p) (λ s. Each (Fits p) (with_calls (calls p) s))
-            (λ s h. each-map (Fits p) (with_call s) (calls p) (each-more (Calls p) (λ c. Fits p (with_call s c)) (λ c g. with_call-fits p s c h g) (calls p) (calls-fit p)))
-            (deployments p) (deployments-fit p))))
+    (each-append (Fits p) (deployments p) (flat_map (with_calls (calls p)) (deployments p))
+    (each-more (Deploys p) (Fits p) (alone-fits p) (deployments p) (deployments-fit p))
+    (each-flat_map (Fits p) (with_calls (calls p)) (deployments p)
+    (each-more (Deploys p) (λ s. Each (Fits p) (with_calls (calls p) s))
+    (λ s h. each-map (Fits p) (with_call s) (calls p) (each-more (Calls p) (λ c. Fits p (with_call s c)) (λ c g. with_call-fits p s c h g) (calls p) (calls-fit p)))
+    (deployments p) (deployments-fit p))))
 
 pub probes-fit : (p : Program) (s : Script) → Contains (probes p) s → Fits p s
 probes-fit p s i = each-held (Fits p) (probes p) s (all-fit p) i

@@ -10,6 +10,8 @@ mod deployments;
 mod law;
 mod probes;
 mod search;
+#[cfg(test)]
+mod tests;
 
 pub use law::probe_law;
 pub use search::first_hit;
