@@ -1,29 +1,31 @@
 -- What some bytes give is found of the file that holds them.
-use Rattle.std.proofs.Common.{◌≡◌, ◌⊎◌, inl, inr, ◌≤◌, ◌<◌, ℕ, List, [], ◌∷◌, refl, subst, sym, Option, Some, None, Result, Ok, Err, IfOk, length, IfSome, arith}
+use Rattle.std.proofs.Common.{◌≡◌, ◌⊎◌, Bool, true, false, if◌then◌else◌, inl, inr, ◌≤◌, ◌<◌, ℕ, List, [], ◌∷◌, refl, subst, sym, Option, Some, None, Result, Ok, Err, IfOk, length, IfSome, arith}
 use Rattle.chc_nums.specs.declared.NoMemory.{NoMemory}
-use Rattle.sol_driver.specs.declared.report.Report.{Report}
-use Rattle.sol_driver.specs.declared.report.Verdict.{Verdict}
-use Rattle.sol_driver.specs.declared.report.Verdict.TheVariants as verdict
-use Rattle.sol_driver.specs.declared.report.Status.{Status}
-use Rattle.sol_driver.specs.declared.report.Status.TheVariants as status
+use Rattle.sol_report.specs.declared.Report.{Report}
+use Rattle.sol_report.specs.Texts.{text_of}
+use Rattle.sol_driver.specs.declared.outcome.Status.{Status}
+use Rattle.sol_driver.specs.declared.outcome.Status.TheVariants as status
 use Rattle.sol_driver.specs.declared.find.Finding.{Finding}
 use Rattle.sol_driver.specs.declared.find.Finding.TheVariants as finding
 use Rattle.sol_driver.specs.Stands.{Stands}
 use Rattle.sol_driver.specs.Ends.{Asked, Names, WasRead, Found, Reported}
-use Rattle.sol_driver.specs.Texts.{status_of, text_of}
+use Rattle.sol_driver.specs.Texts.{is_unsafe, is_unknown, some_verdict, status_of}
 use Rattle.sol_driver.specs.Findings.{IsFinding, IsJudged}
 
--- the status of verdicts is one of two
-two-statuses : (vs : List (ℕ × Verdict)) → (status_of vs ≡ status.Good) ⊎ (status_of vs ≡ status.Unknown)
-two-statuses [] = inl refl
-two-statuses ((t, verdict.Safe ms) ∷ vs) = two-statuses vs
-two-statuses ((t, verdict.Unknown o) ∷ vs) = inr refl
+-- the status of verdicts is one of three
+by-tests : (a b : Bool) → ((if a then status.Unsafe else (if b then status.Unknown else status.Good)) ≡ status.Good) ⊎ (((if a then status.Unsafe else (if b then status.Unknown else status.Good)) ≡ status.Unsafe) ⊎ ((if a then status.Unsafe else (if b then status.Unknown else status.Good)) ≡ status.Unknown))
+by-tests true b = inr (inl refl)
+by-tests false true = inr (inr refl)
+by-tests false false = inl refl
 
 found-report : (a : Asked) (bytes : List ℕ) (r : Report) → WasRead a bytes → Stands bytes r → Found a (status_of r.verdicts) (Some r) (text_of r)
 found-report a bytes r w h =
-    elim (two-statuses r.verdicts) [
+    elim (by-tests (some_verdict is_unsafe r.verdicts) (some_verdict is_unknown r.verdicts)) [
       | inl e ↦ subst (λ (s : Status). Found a s (Some r) (text_of r)) (sym e) (record { bytes = bytes; read = w; stands = h; status = e }, refl)
-      | inr e ↦ subst (λ (s : Status). Found a s (Some r) (text_of r)) (sym e) (record { bytes = bytes; read = w; stands = h; status = e }, refl)
+      | inr other ↦ elim other [
+        | inl e ↦ subst (λ (s : Status). Found a s (Some r) (text_of r)) (sym e) (record { bytes = bytes; read = w; stands = h; status = e }, refl)
+        | inr e ↦ subst (λ (s : Status). Found a s (Some r) (text_of r)) (sym e) (record { bytes = bytes; read = w; stands = h; status = e }, refl)
+      ]
     ]
 
 judged-found : (a : Asked) (bytes : List ℕ) (f : Finding) → WasRead a bytes → IsJudged bytes f → IsFinding a f

@@ -1,27 +1,42 @@
 -- What was found and told ends as it should.
-use Rattle.std.proofs.Common.{ℕ, List, Option, Some, None}
-use Rattle.sol_driver.specs.declared.report.Report.{Report}
-use Rattle.sol_driver.specs.declared.report.Status.{Status}
-use Rattle.sol_driver.specs.declared.report.Status.TheVariants as status
-use Rattle.sol_driver.specs.declared.report.Outcome.{Outcome}
+use Rattle.std.proofs.Common.{ℕ, List, Option, Some, None, Result, Ok, Err}
+use Rattle.sol_outside.specs.declared.SinkFault.{SinkFault}
+use Rattle.sol_outside.specs.declared.SinkFault.TheVariants as sink
+use Rattle.sol_outside.specs.Causes.{AppendedPart, Puts}
+use Rattle.sol_report.specs.declared.Report.{Report}
+use Rattle.sol_report.specs.Texts.{text_of}
+use Rattle.sol_driver.specs.declared.outcome.Status.{Status}
+use Rattle.sol_driver.specs.declared.outcome.Status.TheVariants as status
+use Rattle.sol_driver.specs.declared.outcome.Outcome.{Outcome}
 use Rattle.sol_driver.specs.declared.find.Finding.{Finding}
 use Rattle.sol_driver.specs.declared.find.Finding.TheVariants as finding
-use Rattle.sol_driver.specs.Ends.{Asked, Told, Found, Ends}
+use Rattle.sol_driver.specs.Ends.{Asked, Told, Found, ToldWithoutMemory, before, within, Ends}
 use Rattle.sol_driver.specs.Findings.{IsFinding}
-use Rattle.sol_driver.specs.Outcomes.{TellsText, whole, part, without_memory}
-use Rattle.sol_driver.specs.Texts.{text_of, status_of, status_line}
+use Rattle.sol_driver.specs.Outcomes.{TellsText, whole, part, stopped, without_memory}
+use Rattle.sol_driver.specs.Texts.{status_of, status_line}
+use Rattle.sol_driver.proofs.Writing.{appended-whole, appended-nothing}
+
+-- whatever a put answers, it wrote a part
+pub puts_part : (earlier now : ℕ) (old new : Option (List ℕ)) (bytes : List ℕ) (r : Result (Unit {0}) SinkFault) → Puts earlier now old new bytes r → AppendedPart old new bytes
+puts_part earlier now old new bytes (Ok u) h = appended-whole old new bytes h.1
+puts_part earlier now old new bytes (Err sink.Failed) h = h.2
+puts_part earlier now old new bytes (Err sink.NoMemory) h = (0, rw h.1 (appended-nothing old))
+
+pub ruleset attempts = (puts_part)
 
 found-ends : (a : Asked) (t : Told) (s : Status) (r : Option Report) (text : List ℕ) (o : Outcome) → Found a s r text → TellsText s r text t o → Ends a t o
 found-ends a t status.Good r text _ f (whole w) = record { text = text; found = f; written = w }
+found-ends a t status.Unsafe r text _ f (whole w) = record { text = text; found = f; written = w }
 found-ends a t status.Unknown r text _ f (whole w) = record { text = text; found = f; written = w }
 found-ends a t status.Source r text _ f (whole w) = record { text = text; found = f; written = w }
 found-ends a t status.Words r text _ f (whole w) = record { text = text; found = f; written = w }
 found-ends a t status.ReadFault r text _ f (whole w) = record { text = text; found = f; written = w }
 found-ends a t status.TooLong r text _ f (whole w) = record { text = text; found = f; written = w }
 found-ends a t status.WriteFault r text _ f (whole w) = absurd f
-found-ends a t status.NoMemory r text _ f (whole w) = tt
+found-ends a t status.NoMemory r text _ f (whole w) = absurd f
 found-ends a t s r text _ f (part rose w) = record { status = s; text = text; found = f; written = w; rose = rose }
-found-ends a t s r text _ f without_memory = tt
+found-ends a t s r text _ f (stopped between w v) = within f between w v
+found-ends a t s r text _ f (without_memory w) = before w
 
 pub line-ends : (a : Asked) (t : Told) (s : Status) (o : Outcome) → IsFinding a (finding.Line s) → TellsText s None (status_line s) t o → Ends a t o
 line-ends a t s o f w = found-ends a t s None (status_line s) o f w
@@ -32,4 +47,4 @@ refused-ends a t line o f w = found-ends a t status.Source None line o f w
 pub report-ends : (a : Asked) (t : Told) (r : Report) (o : Outcome) → IsFinding a (finding.Checked r) → TellsText (status_of r.verdicts) (Some r) (text_of r) t o → Ends a t o
 report-ends a t r o f w = found-ends a t (status_of r.verdicts) (Some r) (text_of r) o f w
 
-pub ruleset outcomes = (line-ends, refused-ends, report-ends, without_memory, whole, part)
+pub ruleset outcomes = (line-ends, refused-ends, report-ends, stopped, without_memory, whole, part, before)

@@ -34,3 +34,24 @@ answered-run plain b lp.Pivots ms e = absurd (cc)
 asked-passes : (l : Limits) (f : Formula) (ms : List ℤ) → AllAscend (rows_of f) → asked_of l f ≡ asked.Refuted ms → passes ms (rows_of f) ≡ true
 unfolding asked_of
 asked-passes l f ms a e = run-passes (rows_of f) l.pivots ms a (answered-run (is_plain f) (branch_of f) (tableau_run (rows_of f) l.pivots) ms e)
+
+-- the formulas of obligations have rows in order
+abbrev AllOrdered : List Obligation → Type 0
+AllOrdered [] = Unit {0}
+AllOrdered (o ∷ os) = AllAscend (rows_of o.formula) × AllOrdered os
+
+ordered-append : (os ps : List Obligation) → AllOrdered os → AllOrdered ps → AllOrdered (os ++ ps)
+ordered-append [] ps h k = k
+ordered-append (o ∷ os) ps h k = (h.0, ordered-append os ps h.1 k)
+
+either-ordered : (b : Bool) (o : Obligation) (os : List Obligation) → AllAscend (rows_of o.formula) → AllOrdered os → AllOrdered (if b then o ∷ os else os)
+either-ordered true o os h k = (h, k)
+either-ordered false o os h k = k
+
+rules-ordered : (s : System) (have : List Lemma) (k : ℕ) (l : Lemma) (i : ℕ) (rs : List Rule) → well_made s ≡ true → AllOrdered (at_rules s have k l i rs)
+rules-ordered s have k l i [] w = tt
+rules-ordered s have k l i (r ∷ rs) w = either-ordered (r.head.pred == l.pred) (record { lemma = k; rule = i; formula = reduced s (part.Rule i) (Some l) have }) (at_rules s have k l (suc i) rs) (reduced-ordered s (part.Rule i) (Some l) have w) (rules-ordered s have k l (suc i) rs w)
+
+lemmas-ordered : (s : System) (have : List Lemma) (k : ℕ) (ls : List Lemma) → well_made s ≡ true → AllOrdered (for_lemmas s have k ls)
+lemmas-ordered s have k [] w = tt
+lemmas-ordered s have k (l ∷ ls) w = ordered-append (at_rules s have k l 0 s.rules) (for_lemmas s have (suc k) ls) (rules-ordered s have k l 0 s.rules w) (lemmas-ordered s have (suc k) ls w)

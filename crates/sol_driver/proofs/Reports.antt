@@ -25,7 +25,7 @@ use Rattle.chc_encode.specs.Sound.{Sound, Exact, Asks}
 use Rattle.chc_encode.specs.Systems.{system_of}
 use Rattle.chc_encode.proofs.Laws.{sound, exact, asks}
 use Rattle.chc_templates.specs.Candidates.{candidates_of}
-use Rattle.chc_houdini.specs.Drops.{kept}
+use Rattle.chc_houdini.specs.Drops.{RightDrops, kept}
 use Rattle.pool_state.specs.Content.{Content}
 use Rattle.sol_core.specs.declared.Program.{Program}
 use Rattle.sol_core.specs.declared.Script.{Script}
@@ -46,7 +46,7 @@ use Rattle.sol_report.specs.declared.Report.{Report}
 use Rattle.sol_driver.specs.Refusals.{HasTree}
 use Rattle.sol_driver.specs.Verdicts.{Basis, query_under, IsOpen, first_of_limit, StopStands, IsSafe, IsUnsafe, IsUnknown, VerdictStands, VerdictsStand, limits}
 use Rattle.sol_driver.specs.Stands.{IsSystemOf, IsFirstBatch, IsPoolOf, basis_of, Stands}
-use Rattle.sol_driver.specs.Found.{stop_by, VerdictFound, VerdictsFound, ReportFound}
+use Rattle.sol_driver.specs.Found.{stop_by, VerdictFound, VerdictsFound, IsGreatest, IsReported, ReportFound}
 
 -- what verdicts need of what they rest on: the system is well made and sound, and the pool holds the kept lemmas, which solve it
 record Rests (b : Basis) : Type 0 where
@@ -111,36 +111,51 @@ verdicts-stand : (b : Basis) (t : ℕ) (vs : List (ℕ × Verdict)) → Rests b 
 verdicts-stand b t [] h f = tt
 verdicts-stand b t (v ∷ vs) h f = (f.0, verdict-stands b t v.1 h f.1, verdicts-stand b (suc t) vs h f.2)
 
+-- what a report says over a system and a program
+record RightSo (r : Report) (s : System) (p : Program) : Type 0 where
+  system : IsSystemOf s p
+  rounds : ℕ
+  drops : RightDrops s limits (candidates_of s) r.drops rounds
+  pool : IsPoolOf s (kept r.drops (candidates_of s)) r.pool
+  verdicts : VerdictsStand (record { program = p; system = s; drops = r.drops; kept = kept r.drops (candidates_of s); pool = r.pool.lemmas }) 0 r.verdicts
+  targets : length r.verdicts ≡ length p.sites
+
 -- the pool holds the kept lemmas
 pool-same : (ls : List Lemma) (c : Content) → IsFirstBatch ls c → ls ≡ c.lemmas
 pool-same [] c h = sym h.1
 pool-same (l ∷ ls) c h = sym h.1
 
-system-of : (c : Contract) (s : System) (p : Program) → IsTyped c → well_made (system_of c) ≡ true → s ≡ system_of c → p ≡ program_of c → IsSystemOf s p
-system-of c s p t w e f =
-    subst (λ (x : System). IsSystemOf x p) (sym e) (subst (IsSystemOf (system_of c)) (sym f) (record { well = w; sound = sound c t w; exact = exact c t; asks = asks c }))
+system-of : (c : Contract) → IsTyped c → well_made (system_of c) ≡ true → IsSystemOf (system_of c) (program_of c)
+system-of c t w = record { well = w; sound = sound c t w; exact = exact c t; asks = asks c }
 
-pub report-stands : (text : List ℕ) (f : File) (c : Contract) (r : Report) → HasTree text f → IsFirst text f c → ReportFound c r → Stands text r
-report-stands text f c r source first h =
-    let system : IsSystemOf (arc_value r.system) r.program = system-of c (arc_value r.system) r.program first.good.typed h.well h.system h.program in
+-- the report of a program and rules that are right for it
+stands-by : (text : List ℕ) (f : File) (c : Contract) (s : System) (p : Program) (r : Report) → HasTree text f → IsFirst text f c → p ≡ program_of c → IsSystemOf s p → IsReported p s r → arc_value r.system ≡ s → r.program ≡ p → Stands text r
+stands-by text f c s p r source first e system h d q =
+    let rests : Rests (record { program = p; system = s; drops = r.drops; kept = kept r.drops (candidates_of s); pool = r.pool.lemmas }) = record {
+      well = system.well;
+      sound = system.sound;
+      of = h.pool.of;
+      solves = h.pool.solves;
+      same = pool-same (kept r.drops (candidates_of s)) r.pool h.pool.first;
+    } in
+    let right = verdicts-stand (record { program = p; system = s; drops = r.drops; kept = kept r.drops (candidates_of s); pool = r.pool.lemmas }) 0 r.verdicts rests h.verdicts in
+    let at : (x : System) (y : Program) → s ≡ x → p ≡ y → RightSo r x y = λ x y i j. subst (λ (z : Program). RightSo r x z) j (subst (λ (z : System). RightSo r z p) i (record { system = system; rounds = h.rounds; drops = h.drops; pool = h.pool; verdicts = right; targets = h.targets })) in
+    let all : RightSo r (arc_value r.system) r.program = at (arc_value r.system) r.program (sym d) (sym q) in
     record {
       file = f;
       source = source;
       contract = c;
       first = first;
-      program = h.program;
-      system = system;
-      rounds = h.rounds;
-      drops = h.drops;
-      pool = h.pool;
-      verdicts = verdicts-stand (basis_of r) 0 r.verdicts (record {
-        well = system.well;
-        sound = system.sound;
-        of = h.pool.of;
-        solves = h.pool.solves;
-        same = pool-same (kept r.drops (candidates_of (arc_value r.system))) r.pool h.pool.first;
-      }) h.verdicts;
-      targets = h.targets;
+      program = q ∙ e;
+      system = all.system;
+      rounds = all.rounds;
+      drops = all.drops;
+      pool = all.pool;
+      verdicts = all.verdicts;
+      targets = all.targets;
     }
+
+pub report-stands : (text : List ℕ) (f : File) (c : Contract) (r : Report) → HasTree text f → IsFirst text f c → ReportFound c r → Stands text r
+report-stands text f c r source first h = stands-by text f c (system_of c) (program_of c) r source first refl (system-of c first.good.typed h.well) h.found h.found.system h.found.program
 
 pub ruleset reports = (report-stands)

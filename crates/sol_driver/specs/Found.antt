@@ -11,6 +11,9 @@ use Rattle.chc_ask.specs.declared.Open.{Open}
 use Rattle.chc_ask.specs.declared.Asked.TheVariants as asked
 use Rattle.chc_ask.specs.Asked.{asked_of}
 use Rattle.chc_houdini.specs.declared.RoundStop.{RoundStop}
+use Rattle.chc_houdini.specs.declared.Greatest.{Greatest}
+use Rattle.chc_houdini.specs.Proofs.{AllAsked}
+use Rattle.chc_reduce.specs.Obligations.{obligations}
 use Rattle.chc_houdini.specs.Drops.{RightDrops, kept}
 use Rattle.chc_encode.specs.Systems.{system_of}
 use Rattle.chc_templates.specs.Candidates.{candidates_of}
@@ -48,13 +51,23 @@ abbrev pub VerdictsFound : Program → System → List RoundStop → List Lemma 
 VerdictsFound p s drops ls t [] = Unit {0}
 VerdictsFound p s drops ls t (v ∷ vs) = (v.0 ≡ t) × VerdictFound p s drops ls t v.1 × VerdictsFound p s drops ls (suc t) vs
 
+-- what the rounds over the candidates of a system give
+pub record IsGreatest (s : System) (g : Greatest) : Type 0 where
+  pub right : RightDrops s limits (candidates_of s) g.drops g.rounds
+  pub kept : g.lemmas ≡ kept g.drops (candidates_of s)
+  pub proofs : AllAsked limits (obligations s [] g.lemmas) g.proofs
+
+-- what was found of a program and its rules
+pub record IsReported (p : Program) (s : System) (r : Report) : Type 0 where
+  pub program : r.program ≡ p
+  pub system : arc_value r.system ≡ s
+  pub rounds : ℕ
+  pub drops : RightDrops s limits (candidates_of s) r.drops rounds
+  pub pool : IsPoolOf s (kept r.drops (candidates_of s)) r.pool
+  pub verdicts : VerdictsFound p s r.drops r.pool.lemmas 0 r.verdicts
+  pub targets : length r.verdicts ≡ length p.sites
+
 -- what was found of a contract
 pub record ReportFound (c : Contract) (r : Report) : Type 0 where
-  pub program : r.program ≡ program_of c
-  pub system : arc_value r.system ≡ system_of c
   pub well : well_made (system_of c) ≡ true
-  pub rounds : ℕ
-  pub drops : RightDrops (arc_value r.system) limits (candidates_of (arc_value r.system)) r.drops rounds
-  pub pool : IsPoolOf (arc_value r.system) (kept r.drops (candidates_of (arc_value r.system))) r.pool
-  pub verdicts : VerdictsFound r.program (arc_value r.system) r.drops r.pool.lemmas 0 r.verdicts
-  pub targets : length r.verdicts ≡ length r.program.sites
+  pub found : IsReported (program_of c) (system_of c) r

@@ -1,23 +1,33 @@
 // From the bytes of a file to its report.
 
-ghost use Rattle.std.specs.Prelude.{◌≡◌, ◌≤◌, length, IfOk};
+ghost use Rattle.std.specs.Prelude.{◌≡◌, ◌≤◌, length, true, IfOk, IsTrue};
+ghost use Rattle.std.specs.Arc.{arc_value};
+ghost use Rattle.chc_form.specs.WellMade.{well_made};
 ghost use Rattle.sol_lexer.specs.Tokens.{Tokenizes};
+ghost use Rattle.sol_eval.specs.Sized.{is_sized};
 ghost use Rattle.sol_first.specs.Typed.{IsTyped};
 ghost use Rattle.sol_driver.specs.Findings.{Checks};
 ghost use Rattle.sol_driver.specs.Refusals.{HasTree};
-ghost use Rattle.sol_driver.specs.Verdicts.{report_of};
+ghost use Rattle.sol_driver.specs.Found.{IsGreatest, IsReported, ReportFound};
 
-use crate::judge::judge;
+use crate::judge::{LIMITS, judge};
+use crate::pool::first_pool;
 use crate::refusal::Refusal;
-use crate::report::Report;
+use chc_encode::encode;
+use chc_form::System;
+use chc_houdini::{Greatest, greatest_of};
 use chc_nums::NoMemory;
+use chc_templates::candidates;
+use sol_core::Program;
 use sol_first::{Contract, program};
 use sol_lexer::{LexFault, lex};
 use sol_parse_expr::ParseFault;
 use sol_parser::parse;
 use sol_reader::{ReadFault, read};
+use sol_report::Report;
 use sol_tree::{File, Token};
 use std::alloc::Global;
+use std::sync::Arc;
 
 /// Why a text has no report: it is refused, or memory was wanting.
 #[derive(Clone, Copy, Debug, PartialEq, Eq)]
@@ -26,14 +36,53 @@ pub enum CheckFault {
     NoMemory,
 }
 
-// The program of a contract, and the verdicts on its targets.
+// What a program, its rules and the lemmas that the rounds kept give.
+#[tactic(auto, using(crate::proofs::Reports::founds))]
+fn reported(
+    alloc: Global,
+    program: Program,
+    system: Arc<System>,
+    greatest: Greatest,
+) -> Result<Report, NoMemory>
+    requires sized { IsTrue (is_sized program) }
+    requires well { well_made (arc_value system) ≡ true }
+    requires kept { IsGreatest (arc_value system) greatest }
+    ensures { IfOk result (λ r. IsReported program (arc_value system) r) }
+{
+    let Greatest {
+        lemmas,
+        proofs,
+        drops,
+        ..
+    } = greatest;
+    let pool = first_pool(alloc, &system, lemmas, proofs)?;
+    let verdicts = judge(
+        alloc,
+        &program,
+        &system,
+        drops.as_slice(),
+        pool.lemmas(),
+    )?;
+    Ok(Report {
+        program,
+        system,
+        pool,
+        drops,
+        verdicts,
+    })
+}
+
+// The program of a contract, its rules, the lemmas of the template rounds, and the verdicts on its targets.
+#[tactic(auto, using(crate::proofs::Reports::founds))]
 fn report(alloc: Global, contract: &Contract) -> Result<Report, NoMemory>
     requires { IsTyped contract.now }
-    ensures { IfOk result (λ r. r ≡ report_of contract.now) }
+    ensures { IfOk result (λ r. ReportFound contract.now r) }
 {
     let program = program(alloc, contract)?;
-    let verdicts = judge(alloc, contract)?;
-    Ok(Report { program, verdicts })
+    let system = encode(alloc, contract)?;
+    let from = candidates(alloc, &system)?;
+    let greatest = greatest_of(alloc, &system, from, LIMITS)?;
+    reported(alloc, program, Arc::new(alloc, system)?, greatest)
 }
 
 // The report of a text whose tree is this.
