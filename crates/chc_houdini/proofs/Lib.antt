@@ -1,0 +1,5 @@
+pub mod Below
+pub mod Judging
+pub mod Kept
+pub mod Steps
+pub mod Stops
