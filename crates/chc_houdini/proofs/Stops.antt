@@ -165,7 +165,7 @@ drops-turn i k true sofar x rest = refl
 drops-turn i k false sofar (judged.Shown ps) rest = refl
 drops-turn i k false sofar (judged.Stopped j o) rest = append_assoc sofar.drops ((record { round = i; lemma = k; rule = j; left = o }) ∷ []) rest
 
-append-none : {A : Type 0} (xs : List A) → xs ++ [] ≡ xs
+pub append-none : {A : Type 0} (xs : List A) → xs ++ [] ≡ xs
 append-none {A} [] = refl
 append-none {A} (x ∷ xs) = ap (λ ys. x ∷ ys) (append-none xs)
 
@@ -272,9 +272,9 @@ found s l have earlier i candidates k (b ∷ cs) p m c above place there =
     let rest = stops_from s l have earlier i (suc k) cs in
     elim (less-or-same k m above) [
       | inl later ↦ elim (found s l have earlier i candidates (suc k) cs (from-tail candidates k b cs p) m c (omega arith) place there) [
-          | inl dropped ↦ inl (dropped-later i k m (is_named earlier i k) (judgement s l have b) rest dropped)
-          | inr shown ↦ inr shown
-        ]
+        | inl dropped ↦ inl (dropped-later i k m (is_named earlier i k) (judgement s l have b) rest dropped)
+        | inr shown ↦ inr shown
+      ]
       | inr same ↦
           let head = from-head candidates k b cs p in
           let is : b ≡ c = cc in
