@@ -26,7 +26,8 @@ use Rattle.chc_encode.specs.Systems.{system_of}
 use Rattle.chc_encode.proofs.Laws.{sound, exact, asks}
 use Rattle.chc_templates.specs.Candidates.{candidates_of}
 use Rattle.chc_houdini.specs.Drops.{RightDrops, kept}
-use Rattle.pool_state.specs.Content.{Content}
+use Rattle.chc_houdini.specs.declared.Greatest.{Greatest}
+use Rattle.pool_state.specs.Content.{Content, IsPool}
 use Rattle.sol_core.specs.declared.Program.{Program}
 use Rattle.sol_core.specs.declared.Script.{Script}
 use Rattle.sol_meaning.specs.Fits.{Fits}
@@ -45,7 +46,7 @@ use Rattle.sol_report.specs.declared.Verdict.TheVariants as verdict
 use Rattle.sol_report.specs.declared.Report.{Report}
 use Rattle.sol_driver.specs.Refusals.{HasTree}
 use Rattle.sol_driver.specs.Verdicts.{Basis, query_under, IsOpen, first_of_limit, StopStands, IsSafe, IsUnsafe, IsUnknown, VerdictStands, VerdictsStand, limits}
-use Rattle.sol_driver.specs.Stands.{IsSystemOf, IsFirstBatch, IsPoolOf, basis_of, Stands}
+use Rattle.sol_driver.specs.Stands.{IsSystemOf, first_content, IsPoolOf, Stands}
 use Rattle.sol_driver.specs.Found.{stop_by, VerdictFound, VerdictsFound, IsGreatest, IsReported, ReportFound}
 
 -- what verdicts need of what they rest on: the system is well made and sound, and the pool holds the kept lemmas, which solve it
@@ -121,9 +122,19 @@ record RightSo (r : Report) (s : System) (p : Program) : Type 0 where
   targets : length r.verdicts ≡ length p.sites
 
 -- the pool holds the kept lemmas
-pool-same : (ls : List Lemma) (c : Content) → IsFirstBatch ls c → ls ≡ c.lemmas
-pool-same [] c h = sym h.1
-pool-same (l ∷ ls) c h = sym h.1
+first-lemmas : (s : System) (ls : List Lemma) → (first_content s ls).lemmas ≡ ls
+first-lemmas s [] = refl
+first-lemmas s (l ∷ ls) = refl
+
+first-system : (s : System) (ls : List Lemma) → (first_content s ls).system ≡ s
+first-system s [] = refl
+first-system s (l ∷ ls) = refl
+
+pool-same : (s : System) (ls : List Lemma) (c : Content) → IsPoolOf s ls c → ls ≡ c.lemmas
+pool-same s ls c h = sym (ap (λ (d : Content). d.lemmas) h.holds ∙ first-lemmas s ls)
+
+pool-of : (s : System) (ls : List Lemma) (c : Content) → IsPoolOf s ls c → list_all (of_system s) c.lemmas ≡ true
+pool-of s ls c h = subst (λ (t : System). list_all (of_system t) c.lemmas ≡ true) (ap (λ (d : Content). d.system) h.holds ∙ first-system s ls) h.keeps.lemmas_of
 
 system-of : (c : Contract) → IsTyped c → well_made (system_of c) ≡ true → IsSystemOf (system_of c) (program_of c)
 system-of c t w = record { well = w; sound = sound c t w; exact = exact c t; asks = asks c }
@@ -134,9 +145,9 @@ stands-by text f c s p r source first e system h d q =
     let rests : Rests (record { program = p; system = s; drops = r.drops; kept = kept r.drops (candidates_of s); pool = r.pool.lemmas }) = record {
       well = system.well;
       sound = system.sound;
-      of = h.pool.of;
+      of = pool-of s (kept r.drops (candidates_of s)) r.pool h.pool;
       solves = h.pool.solves;
-      same = pool-same (kept r.drops (candidates_of s)) r.pool h.pool.first;
+      same = pool-same s (kept r.drops (candidates_of s)) r.pool h.pool;
     } in
     let right = verdicts-stand (record { program = p; system = s; drops = r.drops; kept = kept r.drops (candidates_of s); pool = r.pool.lemmas }) 0 r.verdicts rests h.verdicts in
     let at : (x : System) (y : Program) → s ≡ x → p ≡ y → RightSo r x y = λ x y i j. subst (λ (z : Program). RightSo r x z) j (subst (λ (z : System). RightSo r z p) i (record { system = system; rounds = h.rounds; drops = h.drops; pool = h.pool; verdicts = right; targets = h.targets })) in
@@ -159,3 +170,26 @@ pub report-stands : (text : List ℕ) (f : File) (c : Contract) (r : Report) →
 report-stands text f c r source first h = stands-by text f c (system_of c) (program_of c) r source first refl (system-of c first.good.typed h.well) h.found h.found.system h.found.program
 
 pub ruleset reports = (report-stands)
+
+-- ---- what was found
+
+-- the pool of the kept lemmas
+pool-found : (s : System) (g : Greatest) (c : Content) → IsGreatest s g → c ≡ first_content s g.lemmas → IsPool c → Solves c.system c.lemmas → IsPoolOf s (kept g.drops (candidates_of s)) c
+pool-found s g c h e keeps solves = record {
+  holds = e ∙ ap (first_content s) h.kept;
+  keeps = keeps;
+  solves = subst (λ (t : System). Solves t c.lemmas) (ap (λ (d : Content). d.system) e ∙ first-system s g.lemmas) solves;
+}
+
+pub reported_by : (p : Program) (s : System) (g : Greatest) (r : Report) → IsGreatest s g → r.program ≡ p → arc_value r.system ≡ s → r.drops ≡ g.drops → r.pool ≡ first_content s g.lemmas → IsPool r.pool → Solves r.pool.system r.pool.lemmas → VerdictsFound p s r.drops r.pool.lemmas 0 r.verdicts → length r.verdicts ≡ length p.sites → IsReported p s r
+reported_by p s g r h a b d e keeps solves v n = record {
+  program = a;
+  system = b;
+  rounds = g.rounds;
+  drops = subst (λ (ds : List RoundStop). RightDrops s limits (candidates_of s) ds g.rounds) (sym d) h.right;
+  pool = subst (λ (ds : List RoundStop). IsPoolOf s (kept ds (candidates_of s)) r.pool) (sym d) (pool-found s g r.pool h e keeps solves);
+  verdicts = v;
+  targets = n;
+}
+
+pub ruleset founds = (reported_by)

@@ -1,15 +1,14 @@
 -- What a report says of a text.
 use Rattle.std.specs.Prelude.{◌≡◌, ℕ, List, [], ◌∷◌, length, true}
-use Rattle.std.specs.List.{list_all}
 use Rattle.std.specs.Arc.{arc_value}
 use Rattle.chc_form.specs.declared.System.{System}
 use Rattle.chc_form.specs.declared.Lemma.{Lemma}
 use Rattle.chc_form.specs.Solving.{Solves}
-use Rattle.chc_form.specs.WellMade.{well_made, of_system}
+use Rattle.chc_form.specs.WellMade.{well_made}
 use Rattle.chc_encode.specs.Sound.{Sound, Exact, Asks}
 use Rattle.chc_templates.specs.Candidates.{candidates_of}
 use Rattle.chc_houdini.specs.Drops.{RightDrops, kept}
-use Rattle.pool_state.specs.Content.{Content, Grown}
+use Rattle.pool_state.specs.Content.{Content, IsPool}
 use Rattle.sol_core.specs.declared.Program.{Program}
 use Rattle.sol_first.specs.declared.Contract.{Contract}
 use Rattle.sol_first.specs.Elaborated.{program_of}
@@ -27,18 +26,16 @@ pub record IsSystemOf (s : System) (p : Program) : Type 0 where
   pub exact : Exact s p
   pub asks : Asks s p
 
--- the pool's lemmas solve the rules. Its one batch is the kept lemmas, of worker 0 and over no lemmas; where none is kept,
--- there is no batch
-abbrev pub IsFirstBatch : List Lemma → Content → Type 0
-IsFirstBatch [] c = (c.batches ≡ []) × (c.lemmas ≡ [])
-IsFirstBatch (l ∷ ls) c = (c.batches ≡ (record { worker = 0; base = 0; len = length (l ∷ ls) }) ∷ []) × (c.lemmas ≡ l ∷ ls)
+-- what a pool holds whose one batch is these lemmas, of worker 0 and over no lemmas; where there are none, it has no batch
+abbrev pub first_content : System → List Lemma → Content
+first_content s [] = record { system = s; batches = []; lemmas = [] }
+first_content s (l ∷ ls) = record { system = s; batches = (record { worker = 0; base = 0; len = length (l ∷ ls) }) ∷ []; lemmas = l ∷ ls }
 
+-- the pool holds the kept lemmas as its one batch, and its lemmas solve the rules
 pub record IsPoolOf (s : System) (ls : List Lemma) (c : Content) : Type 0 where
-  pub system : c.system ≡ s
-  pub of : list_all (of_system s) c.lemmas ≡ true
-  pub grown : Grown s c.batches c.lemmas
+  pub holds : c ≡ first_content s ls
+  pub keeps : IsPool c
   pub solves : Solves s c.lemmas
-  pub first : IsFirstBatch ls c
 
 -- what the verdicts of a report rest on
 abbrev pub basis_of : Report → Basis

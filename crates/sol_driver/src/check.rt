@@ -37,7 +37,7 @@ pub enum CheckFault {
 }
 
 // What a program, its rules and the lemmas that the rounds kept give.
-#[tactic(auto, using(crate::proofs::Reports::founds))]
+#[tactic(auto, using(crate::proofs::Reports::founds, crate::proofs::Proofs::greatests))]
 fn reported(
     alloc: Global,
     program: Program,
@@ -73,7 +73,7 @@ fn reported(
 }
 
 // The program of a contract, its rules, the lemmas of the template rounds, and the verdicts on its targets.
-#[tactic(auto, using(crate::proofs::Reports::founds))]
+#[tactic(auto, using(crate::proofs::Reports::founds, crate::proofs::Sizes::sizes))]
 fn report(alloc: Global, contract: &Contract) -> Result<Report, NoMemory>
     requires { IsTyped contract.now }
     ensures { IfOk result (λ r. ReportFound contract.now r) }

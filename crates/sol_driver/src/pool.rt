@@ -1,12 +1,13 @@
 // The pool at first: the template lemmas that were kept, as one batch.
 
-ghost use Rattle.std.specs.Prelude.{◌≡◌, ◌≤◌, ◌<◌, [], true, length, None, IfOk};
+ghost use Rattle.std.specs.Prelude.{◌≡◌, ◌≤◌, [], true, length, None, IfOk};
 ghost use Rattle.std.specs.List.{list_all};
 ghost use Rattle.std.specs.Arc.{arc_value};
 ghost use Rattle.chc_form.specs.WellMade.{well_made, of_system};
 ghost use Rattle.chc_reduce.specs.Obligations.{obligations};
 ghost use Rattle.pool_state.specs.Unproved.{unproved};
-ghost use Rattle.sol_driver.specs.Stands.{IsPoolOf};
+ghost use Rattle.pool_state.specs.Content.{Fits, joined_to};
+ghost use Rattle.sol_driver.specs.Stands.{first_content};
 
 use chc_form::{Lemma, System};
 use chc_nums::{List, NoMemory};
@@ -23,7 +24,7 @@ fn batch(
 ) -> Result<Batch, NoMemory>
     requires well { well_made (arc_value s.now) ≡ true }
     requires of { list_all (of_system (arc_value s.now)) lemmas ≡ true }
-    requires some { 0 < length lemmas }
+    requires some { 1 ≤ length lemmas }
     requires few { length lemmas ≤ 1024 }
     requires proofs { unproved (obligations (arc_value s.now) [] lemmas) proofs ≡ None }
     ensures { IfOk result (λ b. b ≡ record { system = arc_value s.now; base = []; lemmas = lemmas }) }
@@ -44,11 +45,10 @@ fn batch(
     }
 }
 
-// A pool with one batch.
+// A pool with one batch more.
 fn joined(pool: Pool, batch: Batch) -> Result<Pool, NoMemory>
-    requires system { batch.system ≡ pool.system }
-    requires base { batch.base ≡ [] }
-    ensures { IfOk result (λ p. IsJoined pool batch p) }
+    requires { Fits pool batch }
+    ensures { IfOk result (λ p. p ≡ joined_to pool 0 batch) }
 {
     let mut pool = pool;
     match pool.append(0, batch) {
@@ -58,6 +58,7 @@ fn joined(pool: Pool, batch: Batch) -> Result<Pool, NoMemory>
 }
 
 /// The pool of a system in which these lemmas are the one batch; where there are none, it has no batch.
+#[tactic(auto, using(crate::proofs::Pools::pools))]
 pub fn first_pool(
     alloc: Global,
     s: &Arc<System>,
@@ -68,7 +69,7 @@ pub fn first_pool(
     requires of { list_all (of_system (arc_value s.now)) lemmas ≡ true }
     requires few { length lemmas ≤ 1024 }
     requires proofs { unproved (obligations (arc_value s.now) [] lemmas) proofs ≡ None }
-    ensures { IfOk result (λ p. IsPoolOf (arc_value s.now) lemmas p) }
+    ensures { IfOk result (λ p. p ≡ first_content (arc_value s.now) lemmas) }
 {
     let pool = Pool::new(alloc, Arc::try_clone(s)?)?;
     if lemmas.is_empty() {
