@@ -73,7 +73,7 @@ fn reported(
 }
 
 // The program of a contract, its rules, the lemmas of the template rounds, and the verdicts on its targets.
-#[tactic(auto, using(crate::proofs::Reports::founds, crate::proofs::Sizes::sizes))]
+#[tactic(auto, using(crate::proofs::Reports::founds, crate::proofs::Sizes::program_sized))]
 fn report(alloc: Global, contract: &Contract) -> Result<Report, NoMemory>
     requires { IsTyped contract.now }
     ensures { IfOk result (λ r. ReportFound contract.now r) }
