@@ -1,0 +1,4 @@
+pub mod Testing
+pub mod Proving
+pub mod Batching
+pub mod Growing
