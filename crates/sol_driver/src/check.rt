@@ -36,55 +36,6 @@ pub enum CheckFault {
     NoMemory,
 }
 
-// What a program, its rules and the lemmas that the rounds kept give.
-#[tactic(auto, using(crate::proofs::Reports::founds, crate::proofs::Proofs::greatests))]
-fn reported(
-    alloc: Global,
-    program: Program,
-    system: Arc<System>,
-    greatest: Greatest,
-) -> Result<Report, NoMemory>
-    requires sized { IsTrue (is_sized program) }
-    requires well { well_made (arc_value system) ≡ true }
-    requires kept { IsGreatest (arc_value system) greatest }
-    ensures { IfOk result (λ r. IsReported program (arc_value system) r) }
-{
-    let Greatest {
-        lemmas,
-        proofs,
-        drops,
-        ..
-    } = greatest;
-    let pool = first_pool(alloc, &system, lemmas, proofs)?;
-    let verdicts = judge(
-        alloc,
-        &program,
-        &system,
-        drops.as_slice(),
-        pool.lemmas(),
-    )?;
-    Ok(Report {
-        program,
-        system,
-        pool,
-        drops,
-        verdicts,
-    })
-}
-
-// The program of a contract, its rules, the lemmas of the template rounds, and the verdicts on its targets.
-#[tactic(auto, using(crate::proofs::Reports::founds, crate::proofs::Sizes::program_sized))]
-fn report(alloc: Global, contract: &Contract) -> Result<Report, NoMemory>
-    requires { IsTyped contract.now }
-    ensures { IfOk result (λ r. ReportFound contract.now r) }
-{
-    let program = program(alloc, contract)?;
-    let system = encode(alloc, contract)?;
-    let from = candidates(alloc, &system)?;
-    let greatest = greatest_of(alloc, &system, from, LIMITS)?;
-    reported(alloc, program, Arc::new(alloc, system)?, greatest)
-}
-
 // The report of a text whose tree is this.
 #[tactic(auto, using(crate::proofs::Reports::reports))]
 fn check_tree(alloc: Global, text: &[u8], file: &File) -> Result<Report, CheckFault>

@@ -6,8 +6,8 @@ ghost use Rattle.sol_driver.specs.Findings.{IsFinding, IsJudged};
 
 use crate::check::{CheckFault, check};
 use crate::command::checked_file;
-use crate::refusal::refusal_line;
 use crate::outcome::Status;
+use crate::refusal::refusal_line;
 use chc_nums::{List, NoMemory};
 use sol_outside::{Shelf, ShelfFault};
 use sol_report::Report;

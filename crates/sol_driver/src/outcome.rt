@@ -69,7 +69,7 @@ fn some_unknown(verdicts: &[(u32, Verdict)]) -> bool
 }
 
 /// The status that verdicts give.
-pub fn status(verdicts: &[(u32, Verdict)]) -> Status
+pub fn status_of(verdicts: &[(u32, Verdict)]) -> Status
     ensures { result ≡ status_of verdicts.now }
 {
     if some_unsafe(verdicts) {
@@ -90,10 +90,7 @@ pub fn status_line(status: Status) -> &'static [u8]
         Status::ReadFault => b"read fault\n",
         Status::NoMemory => b"no memory\n",
         Status::TooLong => b"file too long\n",
-        Status::Good
-        | Status::Unsafe
-        | Status::Unknown
-        | Status::Source
-        | Status::WriteFault => b"",
+        Status::Good | Status::Unsafe | Status::Unknown | Status::Source | Status::WriteFault =>
+            b"",
     }
 }

@@ -5,10 +5,10 @@ ghost use Rattle.sol_driver.specs.Ends.{Asked, Told, Ends};
 ghost use Rattle.sol_driver.specs.Outcomes.{TellsText};
 ghost use Rattle.sol_outside.specs.Causes.{AppendedPart};
 ghost use Rattle.sol_report.specs.Texts.{text_of};
-ghost use Rattle.sol_driver.specs.Texts.{status_line, status_of};
+ghost use Rattle.sol_driver.specs.Texts.{status_line, status_of as the_status};
 
 use crate::find::{Finding, find};
-use crate::outcome::{Outcome, Status, status, status_line};
+use crate::outcome::{Outcome, Status, status_line, status_of};
 use crate::tell::tell;
 use sol_outside::{Gate, Shelf, Sink, SinkFault};
 use sol_report::{Report, lines};
@@ -55,7 +55,7 @@ fn tell_line<K: Sink>(status: Status, line: &[u8], out: &mut K) -> Outcome
 // A report, and the status that its verdicts give.
 #[tactic(auto, using(crate::proofs::Outcomes::outcomes))]
 fn tell_report<K: Sink>(alloc: Global, report: Report, out: &mut K) -> Outcome
-    ensures { TellsText (status_of report.verdicts) (Some report) (text_of report) (record {
+    ensures { TellsText (the_status report.verdicts) (Some report) (text_of report) (record {
       written_before = K.written out.old;
       written_after = K.written out.new;
       faults_before = K.faults out.old;
@@ -65,7 +65,7 @@ fn tell_report<K: Sink>(alloc: Global, report: Report, out: &mut K) -> Outcome
     let Ok(lines) = lines(alloc, &report) else {
         return without_memory(None, out);
     };
-    let status = status(report.verdicts.as_slice());
+    let status = status_of(report.verdicts.as_slice());
     match tell(lines.as_slice(), out) {
         Ok(()) => Outcome {
             status,

@@ -1,6 +1,6 @@
 use Rattle.std.proofs.Common.{◌≡◌, length}
-use Rattle.sol_driver.specs.Found.{VerdictsFound}
-use Rattle.sol_driver.proofs.judge.judge.Given as goal
+use Rattle.sol_check.specs.Found.{VerdictsFound}
+use Rattle.sol_check.proofs.judge.judge.Given as goal
 
 abbrev pub invariant-loop-_site : goal.invariant-loop-_site
 invariant-loop-_site l = record {

@@ -32,8 +32,8 @@ use Rattle.chc_houdini.specs.Drops.{kept}
 use Rattle.chc_houdini.specs.Proofs.{AllAsked}
 use Rattle.chc_houdini.proofs.Kept.{kept-contained, kept-few}
 use Rattle.pool_state.specs.Unproved.{unproved}
-use Rattle.sol_driver.specs.Verdicts.{limits}
-use Rattle.sol_driver.specs.Found.{IsGreatest}
+use Rattle.sol_check.specs.Verdicts.{limits}
+use Rattle.sol_check.specs.Found.{IsGreatest}
 
 -- multipliers that were answered are those of the run
 answered-run : (plain : Bool) (b : List ℕ) (a : Lp) (ms : List ℤ) → answered plain b a ≡ asked.Refuted ms → a ≡ lp.Infeasible ms

@@ -6,7 +6,6 @@ use Rattle.chc_form.specs.declared.System.{System}
 use Rattle.chc_form.specs.declared.Lemma.{Lemma}
 use Rattle.chc_form.specs.declared.Part.TheVariants as part
 use Rattle.chc_reduce.specs.Reduced.{reduced}
-use Rattle.chc_form.specs.WellMade.{well_made}
 use Rattle.chc_ask.specs.declared.Open.{Open}
 use Rattle.chc_ask.specs.declared.Asked.TheVariants as asked
 use Rattle.chc_ask.specs.Asked.{asked_of}
@@ -15,19 +14,16 @@ use Rattle.chc_houdini.specs.declared.Greatest.{Greatest}
 use Rattle.chc_houdini.specs.Proofs.{AllAsked}
 use Rattle.chc_reduce.specs.Obligations.{obligations}
 use Rattle.chc_houdini.specs.Drops.{RightDrops, kept}
-use Rattle.chc_encode.specs.Systems.{system_of}
 use Rattle.chc_templates.specs.Candidates.{candidates_of}
 use Rattle.sol_core.specs.declared.Program.{Program}
-use Rattle.sol_first.specs.declared.Contract.{Contract}
-use Rattle.sol_first.specs.Elaborated.{program_of}
 use Rattle.sol_probe.specs.FirstHit.{IsFirstHit}
 use Rattle.sol_report.specs.declared.Stop.{Stop}
 use Rattle.sol_report.specs.declared.Stop.TheVariants as stop
 use Rattle.sol_report.specs.declared.Verdict.{Verdict}
 use Rattle.sol_report.specs.declared.Verdict.TheVariants as verdict
 use Rattle.sol_report.specs.declared.Report.{Report}
-use Rattle.sol_driver.specs.Verdicts.{first_of_limit, limits}
-use Rattle.sol_driver.specs.Stands.{IsPoolOf}
+use Rattle.sol_check.specs.Verdicts.{first_of_limit, limits}
+use Rattle.sol_check.specs.Reports.{IsPoolOf}
 
 -- why templates leave a target open, whose own query stays open so
 abbrev pub stop_by : Option RoundStop → Open → Stop
@@ -66,8 +62,3 @@ pub record IsReported (p : Program) (s : System) (r : Report) : Type 0 where
   pub pool : IsPoolOf s (kept r.drops (candidates_of s)) r.pool
   pub verdicts : VerdictsFound p s r.drops r.pool.lemmas 0 r.verdicts
   pub targets : length r.verdicts ≡ length p.sites
-
--- what was found of a contract
-pub record ReportFound (c : Contract) (r : Report) : Type 0 where
-  pub well : well_made (system_of c) ≡ true
-  pub found : IsReported (program_of c) (system_of c) r

@@ -7,7 +7,7 @@ ghost use Rattle.chc_form.specs.WellMade.{well_made, of_system};
 ghost use Rattle.chc_reduce.specs.Obligations.{obligations};
 ghost use Rattle.pool_state.specs.Unproved.{unproved};
 ghost use Rattle.pool_state.specs.Content.{Fits, joined_to};
-ghost use Rattle.sol_driver.specs.Stands.{first_content};
+ghost use Rattle.sol_check.specs.Reports.{first_content};
 
 use chc_form::{Lemma, System};
 use chc_nums::{List, NoMemory};

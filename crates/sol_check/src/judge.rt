@@ -7,8 +7,8 @@ ghost use Rattle.chc_ask.specs.Asked.{asked_of};
 ghost use Rattle.sol_eval.specs.Sized.{is_sized};
 ghost use Rattle.sol_probe.specs.FirstHit.{IsFirstHit};
 ghost use Rattle.sol_report.specs.declared.Verdict.TheVariants as verdict;
-ghost use Rattle.sol_driver.specs.Verdicts.{first_of_limit, limits};
-ghost use Rattle.sol_driver.specs.Found.{stop_by, IsProbed, VerdictFound, VerdictsFound};
+ghost use Rattle.sol_check.specs.Verdicts.{first_of_limit, limits};
+ghost use Rattle.sol_check.specs.Found.{stop_by, IsProbed, VerdictFound, VerdictsFound};
 
 use chc_ask::{Asked, Open, Why, ask};
 use chc_form::{Lemma, Limits, Part, System};

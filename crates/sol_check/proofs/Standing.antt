@@ -37,17 +37,14 @@ use Rattle.sol_probe.proofs.Fitting.{probes-fit}
 use Rattle.sol_first.specs.declared.Contract.{Contract}
 use Rattle.sol_first.specs.Typed.{IsTyped}
 use Rattle.sol_first.specs.Elaborated.{program_of}
-use Rattle.sol_tree.specs.declared.file.File.{File}
-use Rattle.sol_reader.specs.Language.{IsFirst}
 use Rattle.sol_report.specs.declared.Stop.{Stop}
 use Rattle.sol_report.specs.declared.Stop.TheVariants as stop
 use Rattle.sol_report.specs.declared.Verdict.{Verdict}
 use Rattle.sol_report.specs.declared.Verdict.TheVariants as verdict
 use Rattle.sol_report.specs.declared.Report.{Report}
-use Rattle.sol_driver.specs.Refusals.{HasTree}
-use Rattle.sol_driver.specs.Verdicts.{Basis, query_under, IsOpen, first_of_limit, StopStands, IsSafe, IsUnsafe, IsUnknown, VerdictStands, VerdictsStand, limits}
-use Rattle.sol_driver.specs.Stands.{IsSystemOf, first_content, IsPoolOf, Stands}
-use Rattle.sol_driver.specs.Found.{stop_by, VerdictFound, VerdictsFound, IsGreatest, IsReported, ReportFound}
+use Rattle.sol_check.specs.Verdicts.{Basis, query_under, IsOpen, first_of_limit, StopStands, IsSafe, IsUnsafe, IsUnknown, VerdictStands, VerdictsStand, limits}
+use Rattle.sol_check.specs.Reports.{IsSystemOf, first_content, IsPoolOf, IsReportOf}
+use Rattle.sol_check.specs.Found.{stop_by, VerdictFound, VerdictsFound, IsGreatest, IsReported}
 
 -- what verdicts need of what they rest on: the system is well made and sound, and the pool holds the kept lemmas, which solve it
 record Rests (b : Basis) : Type 0 where
@@ -140,36 +137,40 @@ system-of : (c : Contract) → IsTyped c → well_made (system_of c) ≡ true �
 system-of c t w = record { well = w; sound = sound c t w; exact = exact c t; asks = asks c }
 
 -- the report of a program and rules that are right for it
-stands-by : (text : List ℕ) (f : File) (c : Contract) (s : System) (p : Program) (r : Report) → HasTree text f → IsFirst text f c → p ≡ program_of c → IsSystemOf s p → IsReported p s r → arc_value r.system ≡ s → r.program ≡ p → Stands text r
-stands-by text f c s p r source first e system h d q =
-    let rests : Rests (record { program = p; system = s; drops = r.drops; kept = kept r.drops (candidates_of s); pool = r.pool.lemmas }) = record {
-      well = system.well;
-      sound = system.sound;
-      of = pool-of s (kept r.drops (candidates_of s)) r.pool h.pool;
-      solves = h.pool.solves;
-      same = pool-same s (kept r.drops (candidates_of s)) r.pool h.pool;
-    } in
-    let right = verdicts-stand (record { program = p; system = s; drops = r.drops; kept = kept r.drops (candidates_of s); pool = r.pool.lemmas }) 0 r.verdicts rests h.verdicts in
-    let at : (x : System) (y : Program) → s ≡ x → p ≡ y → RightSo r x y = λ x y i j. subst (λ (z : Program). RightSo r x z) j (subst (λ (z : System). RightSo r z p) i (record { system = system; rounds = h.rounds; drops = h.drops; pool = h.pool; verdicts = right; targets = h.targets })) in
-    let all : RightSo r (arc_value r.system) r.program = at (arc_value r.system) r.program (sym d) (sym q) in
+right-of : (s : System) (p : Program) (r : Report) → IsSystemOf s p → IsReported p s r → RightSo r s p
+right-of s p r system h =
+    let b : Basis = record { program = p; system = s; drops = r.drops; kept = kept r.drops (candidates_of s); pool = r.pool.lemmas } in
     record {
-      file = f;
-      source = source;
-      contract = c;
-      first = first;
-      program = q ∙ e;
-      system = all.system;
-      rounds = all.rounds;
-      drops = all.drops;
-      pool = all.pool;
-      verdicts = all.verdicts;
-      targets = all.targets;
+      system = system;
+      rounds = h.rounds;
+      drops = h.drops;
+      pool = h.pool;
+      verdicts = verdicts-stand (record { program = p; system = s; drops = r.drops; kept = kept r.drops (candidates_of s); pool = r.pool.lemmas }) 0 r.verdicts (record {
+        well = system.well;
+        sound = system.sound;
+        of = pool-of s (kept r.drops (candidates_of s)) r.pool h.pool;
+        solves = h.pool.solves;
+        same = pool-same s (kept r.drops (candidates_of s)) r.pool h.pool;
+      }) h.verdicts;
+      targets = h.targets;
     }
 
-pub report-stands : (text : List ℕ) (f : File) (c : Contract) (r : Report) → HasTree text f → IsFirst text f c → ReportFound c r → Stands text r
-report-stands text f c r source first h = stands-by text f c (system_of c) (program_of c) r source first refl (system-of c first.good.typed h.well) h.found h.found.system h.found.program
+report_of : (c : Contract) (r : Report) → r.program ≡ program_of c → RightSo r (arc_value r.system) r.program → IsReportOf c r
+report_of c r e h = record {
+  program = e;
+  system = h.system;
+  rounds = h.rounds;
+  drops = h.drops;
+  pool = h.pool;
+  verdicts = h.verdicts;
+  targets = h.targets;
+}
 
-pub ruleset reports = (report-stands)
+pub report_found : (c : Contract) (r : Report) → IsTyped c → well_made (system_of c) ≡ true → IsReported (program_of c) (system_of c) r → IsReportOf c r
+report_found c r t w h =
+    let right : RightSo r (system_of c) (program_of c) = right-of (system_of c) (program_of c) r (system-of c t w) h in
+    let same : RightSo r (arc_value r.system) (program_of c) = subst (λ (s : System). RightSo r s (program_of c)) (sym h.system) right in
+    report_of c r h.program (subst (RightSo r (arc_value r.system)) (sym h.program) same)
 
 -- ---- what was found
 
@@ -192,4 +193,4 @@ reported_by p s g r h a b d e keeps solves v n = record {
   targets = n;
 }
 
-pub ruleset founds = (reported_by)
+pub ruleset founds = (reported_by, report_found)

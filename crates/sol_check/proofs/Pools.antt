@@ -6,7 +6,7 @@ use Rattle.chc_form.specs.declared.System.{System}
 use Rattle.chc_form.specs.declared.Lemma.{Lemma}
 use Rattle.chc_form.specs.WellMade.{well_made, of_system}
 use Rattle.pool_state.specs.Content.{Batched, Content, Fits, joined_to}
-use Rattle.sol_driver.specs.Stands.{first_content}
+use Rattle.sol_check.specs.Reports.{first_content}
 
 pub nothing_fits : (s : System) (ls : List Lemma) → Fits (record { system = s; batches = []; lemmas = [] }) (record { system = s; base = []; lemmas = ls })
 nothing_fits s ls = record { same = refl; rest = []; prefix = refl }

@@ -1,0 +1,4 @@
+pub mod Sizes
+pub mod Proofs
+pub mod Pools
+pub mod Standing
