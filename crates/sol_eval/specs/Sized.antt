@@ -1,6 +1,6 @@
 -- Whether the types that a program computes in have sizes that Solidity has: those of its operations and those that its
 -- conversions give, in every body and every initialiser.
-use Rattle.std.specs.Prelude.{ℕ, List, map, Option, Some, None, Bool, true, nat_le, ◌&&◌}
+use Rattle.std.specs.Prelude.{ℕ, List, Option, Some, None, Bool, true, nat_le, ◌&&◌}
 use Rattle.std.specs.List.{list_all}
 use Rattle.chc_nums.specs.declared.Ty.{Ty}
 use Rattle.chc_nums.specs.declared.Ty.TheVariants as ty

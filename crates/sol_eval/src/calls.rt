@@ -1,7 +1,7 @@
 // Calls of functions.
 
 ghost use Rattle.std.specs.List.{list_all};
-ghost use Rattle.std.specs.Prelude.{◌≡◌, ◌<◌, IsTrue, IfOk, Some, slice_get, ◌++◌, map, take, pos};
+ghost use Rattle.std.specs.Prelude.{◌≡◌, ◌<◌, IsTrue, IfOk, Some, slice_get};
 ghost use Rattle.sol_meaning.specs.Exec.{exec_all, entered, finished, called};
 ghost use Rattle.sol_meaning.specs.Run.{door};
 ghost use Rattle.sol_eval.specs.Ran.{Ran, Kept};

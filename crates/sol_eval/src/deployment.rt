@@ -2,7 +2,6 @@
 
 ghost use Rattle.std.specs.List.{list_all};
 ghost use Rattle.std.specs.Prelude.{◌≡◌, IsTrue, IfOk, map, pos, [], List};
-ghost use lib.IntN.{ℤ};
 ghost use Rattle.sol_meaning.specs.Exec.{all_of};
 ghost use Rattle.sol_meaning.specs.Run.{zero_state, build_arg, constructed, built, fresh};
 ghost use Rattle.sol_eval.specs.Ran.{Ran};

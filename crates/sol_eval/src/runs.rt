@@ -1,7 +1,7 @@
 // Runs of scripts.
 
 ghost use Rattle.std.specs.List.{list_all};
-ghost use Rattle.std.specs.Prelude.{◌≡◌, IsTrue, IfOk, None};
+ghost use Rattle.std.specs.Prelude.{IsTrue, IfOk, None};
 ghost use Rattle.sol_meaning.specs.Run.{run, ran, call_each, call_once, settled};
 ghost use Rattle.sol_eval.specs.Ran.{Ran};
 ghost use Rattle.sol_eval.specs.Runs.{IsRun};

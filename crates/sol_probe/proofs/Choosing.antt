@@ -1,5 +1,5 @@
 -- What is made of lists that were cut off after 4,096 entries has the same first 4,096 entries.
-use Rattle.std.proofs.Common.{◌≡◌, ◌∙◌, sym, refl, ap, ℕ, ◌<◌, List, [], ◌∷◌, ◌++◌, length, take, map, pos, Some, None, arith}
+use Rattle.std.proofs.Common.{◌≡◌, ◌∙◌, sym, refl, ap, ℕ, List, [], ◌∷◌, ◌++◌, take, pos, Some, None, arith}
 use Rattle.std.specs.List.{flat_map}
 use lib.IntN.{ℤ}
 use Rattle.chc_nums.specs.declared.Ty.{Ty}

@@ -53,7 +53,6 @@ filled-full all xs h = let none : 4096 - length all ≡ 0 = omega arith in rw no
 pub filled-more : {A : Type 0} (all xs ys : List A) → filled (filled all xs) ys ≡ filled all (xs ++ ys)
 unfolding filled
 filled-more {A = A} all xs ys =
-    let k : ℕ = 4096 - length all in
     let count : length (all ++ take (4096 - length all) xs) ≡ length all + length (take (4096 - length all) xs) = length-append all (take (4096 - length all) xs) in
     let left : 4096 - length (all ++ take (4096 - length all) xs) ≡ (4096 - length all) - length (take (4096 - length all) xs) = omega arith in
     rw left (append_assoc all (take (4096 - length all) xs) (take ((4096 - length all) - length (take (4096 - length all) xs)) ys) ∙ ap (λ (zs : List A). all ++ zs) (sym (take-two (4096 - length all) xs ys)))
@@ -82,7 +81,6 @@ take-rows f some zero zero xs h = refl
 take-rows f some (suc k) zero xs h = absurd (omega arith)
 take-rows f some k (suc n) [] h = refl
 take-rows {B = B} f some k (suc n) (x ∷ xs) h =
-    let m : ℕ = k - length (take k (f x)) in
     let entries : 0 < length (f x) = some x in
     let few : k - length (take k (f x)) ≤ n = omega (arith, length-take k (f x)) in
     take-two k (f x) (flat_map f (take n xs)) ∙ ap (λ (zs : List B). take k (f x) ++ zs) (take-rows f some (k - length (take k (f x))) n xs few) ∙ sym (take-two k (f x) (flat_map f xs))

@@ -1,6 +1,6 @@
 -- From a search through the probes to the first that violates a target.
-use Rattle.std.proofs.Common.{◌≡◌, ◌∙◌, sym, refl, ap, ℕ, zero, suc, List, [], ◌∷◌, ◌++◌, Bool, true, false, cond, Option, Some, None, eqb, ◌==◌, ◌<◌, get_or, inl, inr, ◌⊎◌, arith, Contains}
-use Rattle.std.specs.Prelude.{◌↔◌, IfOk, Result, Ok, Err}
+use Rattle.std.proofs.Common.{◌≡◌, ◌∙◌, sym, refl, ap, ℕ, zero, suc, List, [], ◌∷◌, ◌++◌, Bool, true, false, cond, Option, Some, None, eqb, ◌==◌, ◌<◌, get_or, inl, inr, arith, Contains}
+use Rattle.std.specs.Prelude.{IfOk, Result, Ok, Err}
 use Rattle.chc_nums.specs.declared.NoMemory.{NoMemory}
 use Rattle.std.specs.List.{list_any, find}
 use Rattle.std.proofs.lemmas.Map.Views.{Contains-from_any}
@@ -9,7 +9,7 @@ use Rattle.std.proofs.lemmas.Bool.{eqb-true, eq-eqb}
 use Rattle.std.proofs.lemmas.List.Elements.{Contains-append_cases}
 use Rattle.sol_core.specs.declared.Program.{Program}
 use Rattle.sol_core.specs.declared.Script.{Script}
-use Rattle.sol_meaning.specs.Run.{Outcome, run, Violates}
+use Rattle.sol_meaning.specs.Run.{run, Violates}
 use Rattle.sol_eval.specs.declared.Run.{Run}
 use Rattle.sol_eval.specs.Runs.{IsRun}
 use Rattle.sol_probe.specs.FirstHit.{IsFirstHit, is_hit}
@@ -29,7 +29,6 @@ same-tests false false f g = refl
 pub same-hit : (p : Program) (s : Script) (site : ℕ) (r : Run) (b : Bool) → IsRun (run p s 1024) r → b ≡ list_any (λ t. site == t) r.hits → b ≡ is_hit p site s
 unfolding is_hit
 same-hit p s site r b h e =
-    let o : Outcome = run p s 1024 in
     e ∙ same-tests (list_any (eqb site) r.hits) (list_any (eqb site) (run p s 1024).hits) (λ q. any-kept site (run p s 1024).hits ((h.sites site).0 (any-found site r.hits q))) (λ q. any-kept site r.hits ((h.sites site).1 (any-found site (run p s 1024).hits q)))
 
 hit-violates : (p : Program) (site : ℕ) (s : Script) → is_hit p site s ≡ true → Violates p site s 1024

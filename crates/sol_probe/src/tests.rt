@@ -1,7 +1,6 @@
 // Worked probes: a contract of one uint8 variable x and one function.
 
 ghost use Rattle.std.specs.Prelude.{IfOk, IsTrue};
-ghost use Rattle.std.specs.List.{list_all};
 ghost use Rattle.sol_eval.specs.Sized.{stmt_sized, fun_sized, is_sized};
 
 use crate::choices::choices;

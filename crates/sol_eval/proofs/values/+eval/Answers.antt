@@ -9,7 +9,7 @@ use Rattle.sol_meaning.specs.declared.world.Got.{Got}
 use Rattle.sol_meaning.specs.declared.world.Got.TheVariants as got
 use Rattle.sol_meaning.specs.Eval.{eval}
 use Rattle.sol_eval.specs.Ran.{Ran}
-use Rattle.sol_eval.specs.Sized.{type_sized, expr_sized}
+use Rattle.sol_eval.specs.Sized.{expr_sized}
 use Rattle.sol_eval.proofs.Checked.{eval-first}
 use Rattle.sol_eval.proofs.Sizes.{arith-type, arith-first, arith-second, compare-first, compare-second, cast-value}
 use Rattle.sol_eval.proofs.values.+eval.Goals as goal

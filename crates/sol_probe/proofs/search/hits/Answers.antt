@@ -1,4 +1,4 @@
-use Rattle.std.proofs.Common.{◌≡◌, ◌∙◌, ap, List, ℕ, ◌==◌}
+use Rattle.std.proofs.Common.{◌∙◌, ap, List, ℕ, ◌==◌}
 use Rattle.std.specs.List.{list_any}
 use Rattle.sol_probe.proofs.FirstHits.{same-hit}
 use Rattle.sol_probe.proofs.search.hits.Goals as goal
