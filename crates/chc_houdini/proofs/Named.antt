@@ -1,10 +1,9 @@
 -- Which candidates drops name, as drops of a further round are added.
-use Rattle.std.proofs.Common.{◌≡◌, ◌∙◌, sym, ap, subst, refl, ℕ, zero, suc, ◌+◌, ◌<◌, ◌≤◌, List, [], ◌∷◌, ◌++◌, ◌==◌, nat_lt, Bool, true, false, ◌&&◌, ◌||◌, ◌⊎◌, inl, inr, Option, Some, None, slice_get, length, get_or, arith, if◌then◌else◌}
+use Rattle.std.proofs.Common.{◌≡◌, ◌∙◌, sym, ap, subst, refl, ℕ, zero, suc, ◌+◌, ◌<◌, ◌≤◌, List, [], ◌∷◌, ◌++◌, ◌==◌, nat_lt, Bool, true, false, ◌&&◌, ◌||◌, Some, slice_get, length, arith, if◌then◌else◌}
 use Rattle.std.specs.List.{Contains, list_any}
 use Rattle.std.proofs.lemmas.Bool.Decides.{nat_tests}
 use Rattle.std.proofs.lemmas.List.Folds.{list_any_at}
 use Rattle.chc_form.specs.declared.lemma.Lemma.{Lemma}
-use Rattle.chc_form.proofs.Passing.{passes}
 use Rattle.chc_reduce.proofs.Satisfying.{both-true}
 use Rattle.chc_reduce.proofs.Sorts.{contains-first, contains-later}
 use Rattle.chc_houdini.specs.declared.greatest.RoundStop.{RoundStop}

@@ -1,5 +1,5 @@
 -- A round's drops and multipliers are right where those of the rounds before it are.
-use Rattle.std.proofs.Common.{◌≡◌, ◌∙◌, sym, ap, subst, refl, ℕ, zero, suc, ◌+◌, ◌<◌, ◌≤◌, List, [], ◌∷◌, ◌++◌, ◌==◌, Bool, true, false, ◌⊎◌, inl, inr, Option, Some, None, slice_get, length, arith}
+use Rattle.std.proofs.Common.{◌≡◌, ◌∙◌, sym, ap, subst, refl, ℕ, zero, suc, ◌+◌, ◌<◌, ◌≤◌, List, [], ◌∷◌, ◌++◌, ◌==◌, true, false, inl, inr, Some, slice_get, length, arith}
 use Rattle.std.specs.List.{Contains}
 use Rattle.std.proofs.lemmas.Bool.{cases_lt}
 use Rattle.std.proofs.lemmas.Bool.Decides.{nat_tests}
@@ -18,12 +18,12 @@ use Rattle.chc_ask.specs.Open.{StaysOpen}
 use Rattle.chc_ask.proofs.Answers.{asked-refuted, asked-open}
 use Rattle.chc_houdini.specs.declared.greatest.RoundStop.{RoundStop}
 use Rattle.chc_houdini.specs.declared.rounds.Round.{Round}
-use Rattle.chc_houdini.specs.Drops.{is_named, left_from, left_in, IsQuery, IsRefuted, IsDrop, Before, InOrder, RightDrops, kept}
+use Rattle.chc_houdini.specs.Drops.{is_named, left_in, IsQuery, IsRefuted, IsDrop, Before, InOrder, RightDrops, kept}
 use Rattle.chc_houdini.specs.Proofs.{AllAsked}
 use Rattle.chc_houdini.specs.Rounds.{no_round, round_of}
 use Rattle.chc_houdini.proofs.Below.{RightBelow, AllDropped}
-use Rattle.chc_houdini.proofs.Named.{AllOf, AllBelow, Grows, named-more, left-more, left-kept, named-there, named-later, fewer}
-use Rattle.chc_houdini.proofs.Stops.{from-start, less-or-same, append-none, contains-cases, IsShown, StopsAt, IsStop, IsDropped, stops_from, proofs_from, round-drops, round-proofs, proofs-asked, each-stop, stops-order, found}
+use Rattle.chc_houdini.proofs.Named.{AllOf, named-more, left-more, left-kept, named-there, named-later, fewer}
+use Rattle.chc_houdini.proofs.Stops.{from-start, less-or-same, append-none, IsShown, IsStop, IsDropped, stops_from, proofs_from, round-drops, round-proofs, proofs-asked, each-stop, stops-order, found}
 
 -- ---- order
 

@@ -1,5 +1,5 @@
 -- What a candidate's judgement says of its queries, and which drops and multipliers a round gives.
-use Rattle.std.proofs.Common.{◌≡◌, ◌∙◌, sym, ap, subst, refl, ℕ, zero, suc, ◌+◌, ◌-◌, ◌<◌, ◌≤◌, List, [], ◌∷◌, ◌++◌, ◌==◌, Bool, true, false, ◌⊎◌, inl, inr, Option, Some, None, slice_get, length, arith, append_assoc, if◌then◌else◌}
+use Rattle.std.proofs.Common.{◌≡◌, ◌∙◌, sym, ap, subst, refl, ℕ, zero, suc, ◌+◌, ◌-◌, ◌<◌, ◌≤◌, List, [], ◌∷◌, ◌++◌, ◌==◌, Bool, true, false, ◌⊎◌, inl, inr, Some, None, slice_get, length, arith, append_assoc, if◌then◌else◌}
 use Rattle.std.specs.List.{Contains, slice_index_or}
 use Rattle.std.proofs.lemmas.List.Elements.{Contains-append_right}
 use Rattle.std.proofs.lemmas.Bool.{cases_lt}
@@ -21,7 +21,7 @@ use Rattle.chc_houdini.specs.declared.greatest.RoundStop.{RoundStop}
 use Rattle.chc_houdini.specs.declared.rounds.Judged.{Judged}
 use Rattle.chc_houdini.specs.declared.rounds.Judged.TheVariants as judged
 use Rattle.chc_houdini.specs.declared.rounds.Round.{Round}
-use Rattle.chc_houdini.specs.Drops.{is_named, left_from, IsQuery, Before, InOrder}
+use Rattle.chc_houdini.specs.Drops.{is_named, left_from, IsQuery, InOrder}
 use Rattle.chc_houdini.specs.Proofs.{AllAsked}
 use Rattle.chc_houdini.specs.Rounds.{with_proofs, after_answer, judged_from, judgement, noted, round_from}
 

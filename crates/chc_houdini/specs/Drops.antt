@@ -1,5 +1,5 @@
 -- Which candidates are dropped in rounds, so that those that are kept are shown under each other: Houdini's rule.
-use Rattle.std.specs.Prelude.{◌≡◌, ◌<◌, ◌⊎◌, ℕ, suc, nat_lt, ◌==◌, Bool, true, false, ◌&&◌, List, [], ◌∷◌, Some, slice_get, if◌then◌else◌}
+use Rattle.std.specs.Prelude.{◌≡◌, ◌<◌, ◌⊎◌, ℕ, suc, nat_lt, ◌==◌, Bool, false, ◌&&◌, List, [], ◌∷◌, Some, slice_get, if◌then◌else◌}
 use Rattle.std.specs.List.{Contains, list_any}
 use Rattle.chc_form.specs.declared.linear.Limits.{Limits}
 use Rattle.chc_form.specs.declared.system.Rule.{Rule}

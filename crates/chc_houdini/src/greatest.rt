@@ -46,8 +46,7 @@ impl RoundStop {
 }
 
 /// The candidates that are left when in each round every candidate is dropped that the candidates of the round do not
-/// show at each rule's head (Houdini). `NoMemory` also stands for 2^32 candidates, rules or rounds, and for what
-/// `chc_ask::ask` says.
+/// show at each rule's head (Houdini). `NoMemory` also stands for 2^32 candidates, and for what `chc_ask::ask` says.
 #[tactic(auto, using(crate::proofs::Steps::steps))]
 pub fn greatest_of(
     alloc: Global,
