@@ -5,10 +5,12 @@
 
 mod candidate_laws;
 mod comparisons;
+mod constant_laws;
 mod placing;
 mod search;
 
 pub use candidate_laws::candidate_law;
+pub use constant_laws::constant_law;
 pub use search::candidates;
 
 #[cfg(test)]
