@@ -1,6 +1,7 @@
 //! Lemmas that a search may try on a system, from the numbers with which its constraints compare a variable.
 //! `candidates` gives them by one equation with the list of `specs/Candidates.antt`; `candidate_law` says that each is
-//! a lemma of the system with one literal and no bound keys, and that there are at most 1,024.
+//! a lemma of the system with one literal and no bound keys, and that there are at most 1,024. `constant_law` says what
+//! the order of the constants is.
 #![tactic(auto)]
 
 mod candidate_laws;
