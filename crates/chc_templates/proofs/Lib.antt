@@ -1,4 +1,5 @@
 pub mod Orders
+pub mod Ordering
 pub mod Splitting
 pub mod Large
 pub mod Laws

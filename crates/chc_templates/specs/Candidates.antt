@@ -30,7 +30,7 @@ splits_sort k (sort.Map keys value) = false
 unfoldable pub konst_for : ℤ → Sort → Option ℤ
 konst_for k s = if splits_sort k s then Some (neg_ℤ k) else None
 
--- the argument of predicate p at place i and c are at most 0 together
+-- the sum of c and the argument of predicate p at place i is at most 0
 abbrev pub lemma_on : ℕ → ℕ → ℤ → Lemma
 lemma_on p i c = record { pred = p; keys = []; lits = record { terms = (term.Arg i, pos 1) ∷ []; konst = c } ∷ [] }
 

@@ -1,5 +1,5 @@
 -- The numbers that a system compares a variable with, by their distance from 0. Numbers are exact.
-use Rattle.std.specs.Prelude.{List, [], ◌∷◌, ◌++◌, take, pos, ◌+ℤ◌, ◌-ℤ◌, neg_ℤ, unsigned_abs, Bool, not, ◌&&◌, ◌||◌, ◌==◌, nat_lt, if◌then◌else◌, ℕ}
+use Rattle.std.specs.Prelude.{◌≡◌, true, List, [], ◌∷◌, ◌++◌, take, pos, ◌+ℤ◌, ◌-ℤ◌, neg_ℤ, unsigned_abs, Bool, not, ◌&&◌, ◌||◌, ◌==◌, nat_lt, if◌then◌else◌, ℕ}
 use Rattle.std.specs.List.{flat_map}
 use Rattle.std.specs.Ordering.{int_eq}
 use lib.IntN.{ℤ, negsuc}
@@ -73,3 +73,15 @@ ordered xs = placed_all [] xs
 -- 0, 1 and the numbers of the constraints: the first sixteen in order
 abbrev pub constants_of : System → List ℤ
 constants_of s = take 16 (ordered (pos 0 ∷ pos 1 ∷ constants_in s))
+
+-- ---- what the order is
+
+-- a number is before each of some numbers
+abbrev pub BeforeAll : ℤ → List ℤ → Type 0
+BeforeAll x [] = Unit {0}
+BeforeAll x (y ∷ ys) = (is_before x y ≡ true) × BeforeAll x ys
+
+-- each number is before all that follow it
+abbrev pub InOrder : List ℤ → Type 0
+InOrder [] = Unit {0}
+InOrder (x ∷ xs) = BeforeAll x xs × InOrder xs
