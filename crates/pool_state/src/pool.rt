@@ -1,6 +1,6 @@
 // The lemmas of a system, as batches bring them.
 
-ghost use Rattle.std.specs.Prelude.{◌≡◌, ◌∷◌, ◌++◌, [], true, length, IfOk, is_ok, if◌then◌else◌};
+ghost use Rattle.std.specs.Prelude.{◌≡◌, ◌∷◌, ◌++◌, [], true, IfOk, is_ok, if◌then◌else◌};
 ghost use Rattle.std.specs.Arc.{arc_value};
 ghost use Rattle.chc_form.specs.Solving.{Solves};
 ghost use Rattle.chc_form.specs.WellMade.{well_made};
