@@ -1,5 +1,5 @@
 -- What a batch keeps whose proofs pass.
-use Rattle.std.proofs.Common.{◌≡◌, ◌∙◌, sym, ap, subst, refl, ℕ, ◌≤◌, true, List, ◌++◌, length, take, drop, Option, Some, None, arith}
+use Rattle.std.proofs.Common.{◌≡◌, ◌∙◌, sym, subst, ℕ, ◌≤◌, true, List, ◌++◌, length, take, drop, Option, None}
 use Rattle.std.specs.List.{list_all}
 use Rattle.std.proofs.Math.Seq.{take-append_seam, drop-append_seam}
 use lib.IntN.{ℤ}
@@ -7,7 +7,7 @@ use Rattle.chc_form.specs.declared.system.System.{System}
 use Rattle.chc_form.specs.declared.lemma.Lemma.{Lemma}
 use Rattle.chc_form.specs.WellMade.{well_made, of_system}
 use Rattle.chc_reduce.specs.Obligations.{for_lemmas, obligations}
-use Rattle.pool_state.specs.Content.{Batched, IsBatch}
+use Rattle.pool_state.specs.Content.{IsBatch}
 use Rattle.pool_state.specs.Unproved.{unproved}
 use Rattle.pool_state.proofs.Proving.{unproved-relative}
 

@@ -1,6 +1,6 @@
 -- Tests of obligations one after another.
-use Rattle.std.proofs.Common.{◌≡◌, ◌∙◌, sym, ap, refl, ℕ, suc, ◌+◌, ◌-◌, ◌≤◌, ◌<◌, ◌==◌, subst, length, get_or, take, drop, List, [], ◌∷◌, ◌++◌, Bool, true, false, Option, Some, None, arith, if◌then◌else◌}
-use Rattle.std.specs.Prelude.{Result, Ok, Err}
+use Rattle.std.proofs.Common.{◌≡◌, ◌∙◌, sym, ap, refl, ℕ, suc, ◌+◌, ◌-◌, ◌≤◌, ◌<◌, subst, length, get_or, take, drop, List, [], ◌∷◌, ◌++◌, Bool, true, false, Some, None, arith, if◌then◌else◌}
+use Rattle.std.specs.Prelude.{Ok, Err}
 use Rattle.std.proofs.Math.Seq.{take-length}
 use Rattle.std.proofs.lemmas.Bool.Decides.{nat_tests}
 use Rattle.std.specs.List.{list_all}

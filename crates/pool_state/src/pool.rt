@@ -1,6 +1,6 @@
 // The lemmas of a system, as batches bring them.
 
-ghost use Rattle.std.specs.Prelude.{◌≡◌, ◌∷◌, ◌++◌, [], true, length, IfOk, is_ok, if◌then◌else◌};
+ghost use Rattle.std.specs.Prelude.{◌≡◌, ◌∷◌, ◌++◌, [], true, is_ok, if◌then◌else◌};
 ghost use Rattle.std.specs.Arc.{arc_value};
 ghost use Rattle.chc_form.specs.Solving.{Solves};
 ghost use Rattle.chc_form.specs.WellMade.{well_made};
@@ -34,11 +34,11 @@ impl Model for Pool {
 }
 
 impl Pool {
-    /// The pool of a system with no lemmas.
+    /// The pool of a system with no lemmas. It takes no memory.
     #[tactic(auto, using(crate::proofs::Growing::growing))]
     pub fn new(alloc: Global, s: Arc<System>) -> Result<Pool, NoMemory>
         requires { well_made (arc_value s) ≡ true }
-        ensures { IfOk result (λ p. p ≡ record { system = arc_value s; batches = []; lemmas = [] }) }
+        ensures { result ≡ Ok (record { system = arc_value s; batches = []; lemmas = [] }) }
     {
         Ok(Pool {
             system: s,

@@ -96,12 +96,12 @@ fn system(alloc: Global) -> Result<Arc<System>, NoMemory> {
     )?)
 }
 
-// x <= k
-fn at_most(alloc: Global, k: i128) -> Result<Lemma, NoMemory> {
+// x + konst <= 0
+fn at_most(alloc: Global, konst: i128) -> Result<Lemma, NoMemory> {
     let mut terms = List::new(alloc);
     terms.push((LitTerm::Arg(0), 1))?;
     let mut lits = List::new(alloc);
-    lits.push(Lit { terms, konst: -k })?;
+    lits.push(Lit { terms, konst })?;
     Ok(Lemma {
         pred: 0,
         keys: List::new(alloc),
@@ -109,18 +109,36 @@ fn at_most(alloc: Global, k: i128) -> Result<Lemma, NoMemory> {
     })
 }
 
-fn lemmas(alloc: Global, bounds: &[i128]) -> Result<Vec<Lemma>, NoMemory> {
+fn lemmas(alloc: Global, konsts: &[i128]) -> Result<Vec<Lemma>, NoMemory> {
     let mut all = Vec::new(alloc);
-    for k in bounds {
-        all.push(at_most(alloc, *k)?)?;
+    for konst in konsts {
+        all.push(at_most(alloc, *konst)?)?;
     }
     Ok(all)
 }
 
-fn proofs(alloc: Global, multipliers: &[&[i128]]) -> Result<Vec<List<i128>>, NoMemory> {
+// Multipliers for the rows of x <= k at the first rule, k + 1 - x and x, and at the second, k + 1 - y, x - 9 and
+// y - x - 1, where one lemma is had and where two are.
+#[derive(Clone, Copy)]
+enum Proof {
+    Start,
+    Step,
+    StepUnderTwo,
+}
+
+fn multipliers(alloc: Global, proof: Proof) -> Result<List<i128>, NoMemory> {
+    let of = match proof {
+        Proof::Start => Vec::from_slice(alloc, &[0, 0, 1, 1, 0])?,
+        Proof::Step => Vec::from_slice(alloc, &[0, 0, 0, 0, 1, 1, 0, 1, 0])?,
+        Proof::StepUnderTwo => Vec::from_slice(alloc, &[0, 0, 0, 0, 1, 1, 0, 1, 0, 0])?,
+    };
+    Ok(List::from_vec(of))
+}
+
+fn proofs(alloc: Global, proofs: &[Proof]) -> Result<Vec<List<i128>>, NoMemory> {
     let mut all = Vec::new(alloc);
-    for ms in multipliers {
-        all.push(List::from_vec(Vec::from_slice(alloc, *ms)?))?;
+    for proof in proofs {
+        all.push(multipliers(alloc, *proof)?)?;
     }
     Ok(all)
 }
@@ -150,27 +168,23 @@ fn batch_of(
     Batch::new(alloc, s, base, lemmas, proofs)
 }
 
-// x <= k, with no base: at the first rule k + 1 - x and x are above 0, at the second k + 1 - y, x - 9 and y - x - 1.
-fn free_batch(alloc: Global, s: &Arc<System>, k: i128) -> Result<Batch, BatchFault>
+// x + konst <= 0, with no base.
+fn free_batch(alloc: Global, s: &Arc<System>, konst: i128) -> Result<Batch, BatchFault>
     ensures { IfOk result (λ b. (b.system ≡ arc_value s.now) × (b.base ≡ [])) }
 {
-    let shown = [
-        [0, 0, 1, 1, 0].as_slice(),
-        [0, 0, 0, 0, 1, 1, 0, 1, 0].as_slice(),
-    ];
-    let proofs = proofs(alloc, shown.as_slice())?;
-    batch_of(alloc, s, Vec::new(alloc), lemmas(alloc, &[k])?, proofs)
+    let proofs = proofs(alloc, &[Proof::Start, Proof::Step])?;
+    batch_of(alloc, s, Vec::new(alloc), lemmas(alloc, &[konst])?, proofs)
 }
 
 // What keeps lemmas from being a batch.
 fn fault(
     alloc: Global,
     s: &Arc<System>,
-    bounds: &[i128],
-    multipliers: &[&[i128]],
+    konsts: &[i128],
+    shown: &[Proof],
 ) -> Result<Option<BatchFault>, NoMemory> {
-    let proofs = proofs(alloc, multipliers)?;
-    Ok(batch_of(alloc, s, Vec::new(alloc), lemmas(alloc, bounds)?, proofs).err())
+    let proofs = proofs(alloc, shown)?;
+    Ok(batch_of(alloc, s, Vec::new(alloc), lemmas(alloc, konsts)?, proofs).err())
 }
 
 #[tactic(auto, using(crate::proofs::Growing::fitting))]
@@ -185,11 +199,11 @@ fn join(pool: &mut Pool, by: u32, batch: Batch) -> Result<(), NoMemory>
     }
 }
 
-fn is_at_most(lemmas: &[Lemma], at: usize, k: i128) -> bool {
+fn is_at_most(lemmas: &[Lemma], at: usize, konst: i128) -> bool {
     match lemmas.get(at) {
         None => false,
         Some(l) => match l.lits.as_slice() {
-            [lit] => lit.konst == -k,
+            [lit] => lit.konst == konst,
             _ => false,
         },
     }
@@ -203,11 +217,11 @@ fn batches_join_in_order(rt: HostRuntime) -> Result<(), Fail> {
         assert!(rt; false, "the system is well made");
         return Ok(());
     }
-    let Ok(first) = free_batch(alloc, &s, 10) else {
+    let Ok(first) = free_batch(alloc, &s, -10) else {
         assert!(rt; false, "x <= 10 is shown");
         return Ok(());
     };
-    let Ok(second) = free_batch(alloc, &s, 11) else {
+    let Ok(second) = free_batch(alloc, &s, -11) else {
         assert!(rt; false, "x <= 11 is shown");
         return Ok(());
     };
@@ -229,8 +243,8 @@ fn batches_join_in_order(rt: HostRuntime) -> Result<(), Fail> {
     ];
     assert_eq!(rt; pool.batches(), joined.as_slice());
     assert_eq!(rt; pool.lemmas().len(), 2);
-    assert!(rt; is_at_most(pool.lemmas(), 0, 10));
-    assert!(rt; is_at_most(pool.lemmas(), 1, 11));
+    assert!(rt; is_at_most(pool.lemmas(), 0, -10));
+    assert!(rt; is_at_most(pool.lemmas(), 1, -11));
     assert_eq!(rt; pool.system().rules.len(), 2);
     Ok(())
 }
@@ -239,20 +253,16 @@ fn batches_join_in_order(rt: HostRuntime) -> Result<(), Fail> {
 fn base_gives_rows(rt: HostRuntime) -> Result<(), Fail> {
     let alloc = rt.alloc();
     let s = system(alloc)?;
-    let shown = [
-        [0, 0, 1, 1, 0].as_slice(),
-        [0, 0, 0, 0, 1, 1, 0, 1, 0, 0].as_slice(),
-    ];
-    let proofs = proofs(alloc, shown.as_slice())?;
-    let base = lemmas(alloc, &[11])?;
-    let Ok(batch) = batch_of(alloc, &s, base, lemmas(alloc, &[10])?, proofs) else {
+    let proofs = proofs(alloc, &[Proof::Start, Proof::StepUnderTwo])?;
+    let base = lemmas(alloc, &[-11])?;
+    let Ok(batch) = batch_of(alloc, &s, base, lemmas(alloc, &[-10])?, proofs) else {
         assert!(rt; false, "x <= 10 is shown");
         return Ok(());
     };
     assert_eq!(rt; batch.base().len(), 1);
-    assert!(rt; is_at_most(batch.base(), 0, 11));
+    assert!(rt; is_at_most(batch.base(), 0, -11));
     assert_eq!(rt; batch.lemmas().len(), 1);
-    assert!(rt; is_at_most(batch.lemmas(), 0, 10));
+    assert!(rt; is_at_most(batch.lemmas(), 0, -10));
     Ok(())
 }
 
@@ -260,24 +270,38 @@ fn base_gives_rows(rt: HostRuntime) -> Result<(), Fail> {
 fn first_open_obligation_is_named(rt: HostRuntime) -> Result<(), Fail> {
     let alloc = rt.alloc();
     let s = system(alloc)?;
-    let first = [0, 0, 1, 1, 0].as_slice();
-    let second = [0, 0, 0, 0, 1, 1, 0, 1, 0].as_slice();
-    let third = [0, 0, 0, 0, 1, 1, 0, 1, 0, 0].as_slice();
-    for (bounds, shown, lemma, rule) in [
+    for (konsts, shown, lemma, rule) in [
         // A proof is missing.
-        (&[10][..], &[][..], 0, 0),
-        (&[10][..], &[first][..], 0, 1),
+        (&[-10][..], &[][..], 0, 0),
+        (&[-10][..], &[Proof::Start][..], 0, 1),
         // A proof is that of another formula.
-        (&[10][..], &[second, first][..], 0, 0),
-        (&[10][..], &[first, first][..], 0, 1),
-        // 9 goes to 10: the sum is 0, and not above it.
-        (&[9][..], &[first, second][..], 0, 1),
-        (&[10, 9][..], &[first, third, first, third][..], 1, 1),
+        (&[-10][..], &[Proof::Step, Proof::Start][..], 0, 0),
+        (&[-10][..], &[Proof::Start, Proof::Start][..], 0, 1),
+        // x <= 9: 9 goes to 10, and the constants' sum is 0.
+        (&[-9][..], &[Proof::Start, Proof::Step][..], 0, 1),
+        (
+            &[-10, -9][..],
+            &[
+                Proof::Start,
+                Proof::StepUnderTwo,
+                Proof::Start,
+                Proof::StepUnderTwo,
+            ][..],
+            1,
+            1,
+        ),
     ] {
-        let open = fault(alloc, &s, bounds, shown)?;
+        let open = fault(alloc, &s, konsts, shown)?;
         assert_eq!(rt; open, Some(BatchFault::Unproved { lemma, rule }));
     }
-    // Further proofs are not looked at.
-    assert_eq!(rt; fault(alloc, &s, &[10], &[first, second, first])?, None);
+    Ok(())
+}
+
+#[test]
+fn further_proofs_are_not_looked_at(rt: HostRuntime) -> Result<(), Fail> {
+    let alloc = rt.alloc();
+    let s = system(alloc)?;
+    let shown = [Proof::Start, Proof::Step, Proof::Start];
+    assert_eq!(rt; fault(alloc, &s, &[-10], &shown)?, None);
     Ok(())
 }
