@@ -32,33 +32,33 @@ const TURNS: u32 = 1024;
 fn first_of_limit(drops: &[RoundStop]) -> Option<&RoundStop>
     ensures { option_copied result ≡ first_of_limit drops.now }
 {
-    for drop in drops {
-        match &drop.left.why {
+    for stop in drops {
+        match &stop.left.why {
             Why::Point(_, _) => {}
-            Why::Wide | Why::Pivots | Why::Nodes => return Some(drop),
+            Why::Wide | Why::Pivots | Why::Nodes => return Some(stop),
         }
     }
     None
 }
 
 // Why the templates leave a target open.
-fn stop(alloc: Global, drops: &[RoundStop], open: &Open) -> Result<Stop, NoMemory>
-    ensures { IfOk result (λ s. s ≡ stop_by (first_of_limit drops.now) open.now) }
+fn stop_of(alloc: Global, drops: &[RoundStop], left: &Open) -> Result<Stop, NoMemory>
+    ensures { IfOk result (λ s. s ≡ stop_by (first_of_limit drops.now) left.now) }
 {
     match first_of_limit(drops) {
-        Some(drop) => Ok(Stop::Round(drop.copy(alloc)?)),
-        None => Ok(Stop::Target(open.copy(alloc)?)),
+        Some(stop) => Ok(Stop::Round(stop.copy(alloc)?)),
+        None => Ok(Stop::Target(left.copy(alloc)?)),
     }
 }
 
 // What is left of a target that no probe violates.
-fn unknown(alloc: Global, drops: &[RoundStop], open: Open) -> Result<Verdict, NoMemory>
-    ensures { IfOk result (λ v. v ≡ verdict.Unknown (stop_by (first_of_limit drops.now) open) open 0 0) }
+fn unknown(alloc: Global, drops: &[RoundStop], left: Open) -> Result<Verdict, NoMemory>
+    ensures { IfOk result (λ v. v ≡ verdict.Unknown (stop_by (first_of_limit drops.now) left) left 0 0) }
 {
-    let templates = stop(alloc, drops, &open)?;
+    let templates = stop_of(alloc, drops, &left)?;
     Ok(Verdict::Unknown {
         templates,
-        pool: open,
+        pool: left,
         seen: 0,
         tries: 0,
     })
@@ -70,17 +70,17 @@ fn probed(
     program: &Program,
     drops: &[RoundStop],
     target: u32,
-    open: Open,
+    left: Open,
 ) -> Result<Verdict, NoMemory>
     requires { IsTrue (is_sized program.now) }
-    ensures { IfOk result (λ v. IsProbed program.now drops.now target open v) }
+    ensures { IfOk result (λ v. IsProbed program.now drops.now target left v) }
 {
     match first_hit(alloc, program, target)? {
         Some(script) => Ok(Verdict::Unsafe {
             script,
             turns: TURNS,
         }),
-        None => unknown(alloc, drops, open),
+        None => unknown(alloc, drops, left),
     }
 }
 
@@ -97,16 +97,9 @@ fn verdict(
     requires well { well_made system.now ≡ true }
     ensures { IfOk result (λ v. VerdictFound program.now system.now drops.now lemmas.now target v) }
 {
-    match ask(
-        alloc,
-        system,
-        Part::Query(target),
-        None,
-        lemmas,
-        LIMITS,
-    )? {
+    match ask(alloc, system, Part::Query(target), None, lemmas, LIMITS)? {
         Asked::Refuted(multipliers) => Ok(Verdict::Safe(multipliers, lemmas.len() as u64)),
-        Asked::Open(open) => probed(alloc, program, drops, target, open),
+        Asked::Open(left) => probed(alloc, program, drops, target, left),
     }
 }
 

@@ -2,8 +2,8 @@ use Rattle.std.proofs.Common.{◌≡◌, length}
 use Rattle.sol_check.specs.Found.{VerdictsFound}
 use Rattle.sol_check.proofs.judge.judge.Given as goal
 
-abbrev pub invariant-loop-_site : goal.invariant-loop-_site
-invariant-loop-_site l = record {
+abbrev pub invariant-loop-site : goal.invariant-loop-site
+invariant-loop-site l = record {
   found : VerdictsFound l.program l.system l.drops l.lemmas 0 l.verdicts;
   count : length l.verdicts ≡ l._site-index;
 }
