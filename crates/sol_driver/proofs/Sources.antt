@@ -8,7 +8,12 @@ use Rattle.sol_lexer.specs.Tokens as rule
 use Rattle.sol_lexer.proofs.Laws.{piece-some}
 use Rattle.sol_parse_expr.specs.Place.{IsPlace}
 use Rattle.sol_parser.specs.Trees.{IsTree}
+use Rattle.sol_first.specs.declared.Contract.{Contract}
+use Rattle.sol_reader.specs.Language.{IsFirst}
+use Rattle.sol_report.specs.declared.Report.{Report}
+use Rattle.sol_check.specs.Reports.{IsReportOf}
 use Rattle.sol_driver.specs.Refusals.{HasTree, HasNoTree}
+use Rattle.sol_driver.specs.Stands.{Stands}
 
 token-one : (at n : ℕ) (k : Option TokenKind) → length (token_of at n k) ≤ 1
 token-one at n None = omega arith
@@ -30,3 +35,8 @@ pub has-no_tree : (text : List ℕ) (ts : List Token) (at : ℕ) → Tokenizes t
 has-no_tree text ts at t h = record { tokens = ts; tokenizes = t; none = h.0; place = h.1 }
 
 pub ruleset sources = (tokens-few, has-tree, has-no_tree)
+
+pub report_stands : (text : List ℕ) (f : File) (c : Contract) (r : Report) → HasTree text f → IsFirst text f c → IsReportOf c r → Stands text r
+report_stands text f c r source first right = record { file = f; source = source; contract = c; first = first; report = right }
+
+pub ruleset reports = (report_stands)

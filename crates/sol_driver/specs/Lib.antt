@@ -1,8 +1,6 @@
 pub mod Command
-pub mod Verdicts
 pub mod Refusals
 pub mod Stands
-pub mod Found
 pub mod Texts
 pub mod Ends
 pub mod Told

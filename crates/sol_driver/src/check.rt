@@ -1,25 +1,12 @@
 // From the bytes of a file to its report.
 
-ghost use Rattle.std.specs.Prelude.{◌≡◌, ◌≤◌, length, true, IfOk, IsTrue};
-ghost use Rattle.std.specs.Arc.{arc_value};
-ghost use Rattle.chc_form.specs.WellMade.{well_made};
+ghost use Rattle.std.specs.Prelude.{◌≤◌, length};
 ghost use Rattle.sol_lexer.specs.Tokens.{Tokenizes};
-ghost use Rattle.sol_eval.specs.Sized.{is_sized};
-ghost use Rattle.sol_first.specs.Typed.{IsTyped};
 ghost use Rattle.sol_driver.specs.Findings.{Checks};
 ghost use Rattle.sol_driver.specs.Refusals.{HasTree};
-ghost use Rattle.sol_driver.specs.Found.{IsGreatest, IsReported, ReportFound};
 
-use crate::judge::{LIMITS, judge};
-use crate::pool::first_pool;
 use crate::refusal::Refusal;
-use chc_encode::encode;
-use chc_form::System;
-use chc_houdini::{Greatest, greatest_of};
-use chc_nums::NoMemory;
-use chc_templates::candidates;
-use sol_core::Program;
-use sol_first::{Contract, program};
+use sol_check::check_contract;
 use sol_lexer::{LexFault, lex};
 use sol_parse_expr::ParseFault;
 use sol_parser::parse;
@@ -27,7 +14,6 @@ use sol_reader::{ReadFault, read};
 use sol_report::Report;
 use sol_tree::{File, Token};
 use std::alloc::Global;
-use std::sync::Arc;
 
 /// Why a text has no report: it is refused, or memory was wanting.
 #[derive(Clone, Copy, Debug, PartialEq, Eq)]
@@ -37,7 +23,7 @@ pub enum CheckFault {
 }
 
 // The report of a text whose tree is this.
-#[tactic(auto, using(crate::proofs::Reports::reports))]
+#[tactic(auto, using(crate::proofs::Sources::reports))]
 fn check_tree(alloc: Global, text: &[u8], file: &File) -> Result<Report, CheckFault>
     requires short { length text.now ≤ 262144 }
     requires tree { HasTree text.now file.now }
@@ -48,7 +34,7 @@ fn check_tree(alloc: Global, text: &[u8], file: &File) -> Result<Report, CheckFa
         Err(ReadFault::NotBuilt) => return Err(CheckFault::Refused(Refusal::NotBuilt)),
         Err(ReadFault::NoMemory) => return Err(CheckFault::NoMemory),
     };
-    match report(alloc, &contract) {
+    match check_contract(alloc, &contract) {
         Ok(report) => Ok(report),
         Err(_) => Err(CheckFault::NoMemory),
     }

@@ -6,9 +6,7 @@
 mod check;
 mod command;
 mod find;
-mod judge;
 mod outcome;
-mod pool;
 mod refusal;
 mod tell;
 #[cfg(test)]
