@@ -1,12 +1,11 @@
 -- What the answers of a run say of the formula whose rows it took.
-use Rattle.std.proofs.Common.{◌≡◌, ◌∙◌, sym, ap, subst, refl, ℕ, List, Bool, true, false, ◌⊎◌, inl, inr, pos, ◌≤ℤ◌}
+use Rattle.std.proofs.Common.{◌≡◌, subst, refl, List, Bool, true, false, ◌⊎◌, inl, inr, pos, ◌≤ℤ◌}
 use lib.IntN.{ℤ}
 use Rattle.chc_form.specs.declared.linear.Limits.{Limits}
-use Rattle.chc_form.specs.declared.linear.Lin.{Lin}
 use Rattle.chc_form.specs.declared.formula.Formula.{Formula}
-use Rattle.chc_form.specs.Linear.{AllAscend, FracSatisfies, FracRefuted}
+use Rattle.chc_form.specs.Linear.{AllAscend, FracSatisfies}
 use Rattle.chc_form.specs.Multipliers.{Refutes}
-use Rattle.chc_form.specs.Formulas.{FracTrue, FormulaRefuted}
+use Rattle.chc_form.specs.Formulas.{FormulaRefuted}
 use Rattle.chc_form.proofs.Farkas.{refutes-fractions, satisfied-not_refuted}
 use Rattle.chc_simplex.specs.declared.data.Lp.{Lp}
 use Rattle.chc_simplex.specs.declared.data.Lp.TheVariants as lp
@@ -15,13 +14,13 @@ use Rattle.chc_simplex.specs.Rounds.{number_at}
 use Rattle.chc_simplex.specs.TableauRun.{tableau_run}
 use Rattle.chc_simplex.proofs.Soundness.{tableau-answers}
 use Rattle.chc_reduce.specs.Rows.{rows_of, is_plain, branch_of}
-use Rattle.chc_reduce.proofs.Satisfying.{satisfied-true, rows-refute, plain-refutes}
+use Rattle.chc_reduce.proofs.Satisfying.{satisfied-true, rows-refute}
 use Rattle.chc_ask.specs.declared.open.Why.{Why}
 use Rattle.chc_ask.specs.declared.open.Why.TheVariants as why
 use Rattle.chc_ask.specs.declared.open.Open.{Open}
 use Rattle.chc_ask.specs.declared.open.Asked.{Asked}
 use Rattle.chc_ask.specs.declared.open.Asked.TheVariants as asked
-use Rattle.chc_ask.specs.Asked.{left_open, pointed, answered, asked_of}
+use Rattle.chc_ask.specs.Asked.{pointed, answered, asked_of}
 use Rattle.chc_ask.specs.Open.{MeetsLimit, wide, pivots, choice, HasCause, StaysOpen}
 
 -- what each answer says

@@ -9,7 +9,6 @@ use Rattle.chc_simplex.specs.TableauRun.{tableau_run}
 use Rattle.chc_reduce.specs.Rows.{rows_of, is_plain, branch_of}
 use Rattle.chc_ask.specs.declared.open.Why.{Why}
 use Rattle.chc_ask.specs.declared.open.Why.TheVariants as why
-use Rattle.chc_ask.specs.declared.open.Open.{Open}
 use Rattle.chc_ask.specs.declared.open.Asked.{Asked}
 use Rattle.chc_ask.specs.declared.open.Asked.TheVariants as asked
 

@@ -2,7 +2,7 @@
 use Rattle.std.proofs.Common.{◌≡◌, ◌≢◌, sym, subst, refl, ℕ, suc, List, [], ◌∷◌, ◌++◌, ◌==◌, Bool, true, false, map, Option, Some, None, slice_get, pos, arith, if◌then◌else◌}
 use Rattle.std.specs.List.{Contains}
 use Rattle.std.proofs.lemmas.Int.{ints}
-use lib.IntN.{ℤ, negsuc}
+use lib.IntN.{negsuc}
 use Rattle.chc_nums.specs.declared.Ty.{Ty}
 use Rattle.chc_form.specs.declared.linear.Lin.{Lin}
 use Rattle.chc_form.specs.declared.formula.Formula.{Formula, Le, And, Or}
@@ -23,7 +23,7 @@ use Rattle.chc_form.specs.Sums.{sums_of}
 use Rattle.chc_form.specs.WellMade.{well_made}
 use Rattle.chc_form.proofs.Orders.{rule-ascends, query-ascends}
 use Rattle.chc_reduce.specs.Literals.{with_value, literal_sum, opposite}
-use Rattle.chc_reduce.specs.Reduced.{lower, upper, range_of, ranges, at_most, refuted, granted, goal_parts, constraint, instance_of, instances_at, instances, reduced_rule, reduced_query, reduced_rule_at, reduced_query_at, reduced}
+use Rattle.chc_reduce.specs.Reduced.{lower, upper, ranges, at_most, refuted, granted, goal_parts, constraint, instance_of, instances_at, instances, reduced_rule, reduced_query, reduced_rule_at, reduced_query_at, reduced}
 use Rattle.chc_reduce.specs.Rows.{joined, only, rows_of}
 use Rattle.chc_reduce.proofs.Shapes.{rows_of-Le, rows_of-And, rows_of-Or}
 use Rattle.chc_reduce.proofs.Sums.{literal-ascends}

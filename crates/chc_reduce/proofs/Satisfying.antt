@@ -1,17 +1,17 @@
 -- A formula that is true at fractions has rows that they satisfy, and the other way round where it has no choice.
-use Rattle.std.proofs.Common.{◌≡◌, ◌∙◌, sym, ap, subst, refl, ℕ, List, [], ◌∷◌, ◌++◌, Bool, true, false, not, ◌&&◌, ◌||◌, map, pos, ◌+ℤ◌, ◌*ℤ◌, ◌≤ℤ◌, arith}
+use Rattle.std.proofs.Common.{◌≡◌, ◌∙◌, sym, subst, refl, ℕ, List, [], ◌∷◌, ◌++◌, Bool, true, false, not, ◌&&◌, ◌||◌, map, pos, ◌+ℤ◌, ◌*ℤ◌, ◌≤ℤ◌, arith}
 use Rattle.std.specs.List.{list_all, list_any}
 use Rattle.std.proofs.lemmas.Int.{ints}
 use lib.IntN.{ℤ}
 use lib.Signed.{lt_z}
 use Rattle.chc_form.specs.declared.linear.Lin.{Lin}
-use Rattle.chc_form.specs.declared.formula.Formula.{Formula, Le, And, Or}
+use Rattle.chc_form.specs.declared.formula.Formula.{Formula}
 use Rattle.chc_form.specs.Formulas.{FracTrue, FormulaRefuted, frac_true}
 use Rattle.chc_form.specs.Linear.{FracSatisfies, FracRefuted, sum_of}
 use Rattle.chc_form.proofs.Passing.{passes}
 use Rattle.chc_form.proofs.Truths.{frac_true-Le, frac_true-And, frac_true-Or}
 use Rattle.chc_reduce.specs.Rows.{joined, only, rows_of, is_plain}
-use Rattle.chc_reduce.proofs.Shapes.{rows_of-Le, rows_of-And, rows_of-Or, is_plain-Le, is_plain-And, is_plain-Or}
+use Rattle.chc_reduce.proofs.Shapes.{rows_of-Le, rows_of-And, rows_of-Or, is_plain-And, is_plain-Or}
 use Rattle.chc_reduce.proofs.Induction.{each-formula}
 
 satisfies-append : (ks ls : List Lin) (x : ℕ → ℤ) (d : ℤ) → FracSatisfies ks x d → FracSatisfies ls x d → FracSatisfies (ks ++ ls) x d

@@ -1,5 +1,5 @@
 -- The sorts of variables in a well-made system, and turns of the loop over them.
-use Rattle.std.proofs.Common.{◌≡◌, sym, subst, refl, ℕ, ◌+◌, suc, List, [], ◌∷◌, ◌++◌, Bool, true, false, ◌&&◌, Option, Some, None, slice_get, arith, append_assoc}
+use Rattle.std.proofs.Common.{◌≡◌, sym, subst, refl, ℕ, ◌+◌, suc, List, [], ◌∷◌, ◌++◌, true, Some, slice_get, arith, append_assoc}
 use Rattle.std.specs.List.{list_all, Contains}
 use Rattle.std.proofs.lemmas.Option.{get_or_from_slice_get, slice_get_within}
 use Rattle.std.proofs.lemmas.List.Elements.{Contains-get_or}
@@ -12,7 +12,7 @@ use Rattle.chc_form.specs.declared.system.Sort.TheVariants as sort
 use Rattle.chc_form.specs.declared.system.Rule.{Rule}
 use Rattle.chc_form.specs.declared.system.Query.{Query}
 use Rattle.chc_form.specs.declared.system.System.{System}
-use Rattle.chc_form.specs.WellMade.{is_few, all_few, is_size, is_sized, is_sort, is_con, is_app, is_rule, is_query, well_made}
+use Rattle.chc_form.specs.WellMade.{is_few, all_few, is_sized, is_sort, well_made}
 use Rattle.chc_form.proofs.Passing.{passes, rule-made, query-made}
 use Rattle.chc_reduce.specs.Reduced.{ranges}
 

@@ -1,5 +1,5 @@
 -- Sums of literals: they are in order, and have the literals' values.
-use Rattle.std.proofs.Common.{◌≡◌, ◌≢◌, ◌∙◌, sym, ap, subst, refl, ℕ, ◌<◌, ◌≤◌, ◌==◌, List, [], ◌∷◌, Option, Some, None, slice_get, unwrap_or, true, false, pos, ◌+ℤ◌, ◌-ℤ◌, ◌*ℤ◌, neg_ℤ, arith, inl, inr, if◌then◌else◌, Bool}
+use Rattle.std.proofs.Common.{◌≡◌, ◌≢◌, ◌∙◌, sym, ap, subst, refl, ℕ, ◌<◌, ◌≤◌, ◌==◌, List, [], ◌∷◌, Option, Some, None, unwrap_or, true, false, pos, ◌+ℤ◌, ◌-ℤ◌, ◌*ℤ◌, neg_ℤ, arith, inl, inr, if◌then◌else◌, Bool}
 use Rattle.std.specs.Prelude.{nat_lt}
 use Rattle.std.specs.Ordering.{int_eq}
 use Rattle.std.proofs.lemmas.Int.{ints}
@@ -15,7 +15,7 @@ use Rattle.chc_form.specs.declared.lemma.LitTerm.{LitTerm}
 use Rattle.chc_form.specs.declared.lemma.LitTerm.TheVariants as term
 use Rattle.chc_form.specs.declared.lemma.Lit.{Lit}
 use Rattle.chc_form.specs.Linear.{sum_of, value_of, AscendFrom, Ascend}
-use Rattle.chc_form.specs.Valuations.{Valuation, arg_at, at_atom}
+use Rattle.chc_form.specs.Valuations.{Valuation, at_atom}
 use Rattle.chc_form.specs.Lemmas.{term_value, terms_value, lit_value}
 use Rattle.chc_reduce.specs.Literals.{with_value, put_term, raised, variable_of, terms_onto, literal_sum, opposite_terms, opposite}
 

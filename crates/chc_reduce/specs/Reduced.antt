@@ -4,7 +4,7 @@
 -- as the `Or` of its literals at the atom. What is left out makes the formula say less: constraints but inequalities,
 -- literals that speak of bound keys or mappings or leave 128 bits, and lemmas with bound keys.
 use Rattle.std.specs.Prelude.{ℕ, suc, ◌==◌, List, [], ◌∷◌, ◌++◌, map, Option, Some, None, pos, neg_ℤ, if◌then◌else◌, slice_get}
-use lib.IntN.{ℤ, negsuc}
+use lib.IntN.{negsuc}
 use Rattle.chc_nums.specs.declared.Ty.{Ty}
 use Rattle.chc_nums.specs.Types.{least, greatest}
 use Rattle.chc_form.specs.declared.linear.Lin.{Lin}

@@ -1,7 +1,6 @@
 // Literals at the arguments of atoms.
 
-ghost use Rattle.std.specs.Prelude.{◌≡◌, ◌++◌, ◌∷◌, [], IfOk, OnOk, option_copied};
-ghost use Rattle.std.specs.Prelude.{◌+ℤ◌};
+ghost use Rattle.std.specs.Prelude.{◌≡◌, ◌++◌, [], ◌+ℤ◌, IfOk, Some};
 ghost use Rattle.chc_nums.specs.Wide.{in_128};
 ghost use Rattle.chc_reduce.specs.Literals.{with_value, raised_first, put_term, raised, variable_of, terms_onto, literal_sum, opposite_terms, opposite};
 

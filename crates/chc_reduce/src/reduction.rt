@@ -1,12 +1,11 @@
 // The formula that has to be refuted.
 
-ghost use Rattle.std.specs.Prelude.{◌≡◌, ◌+◌, ◌++◌, ◌∷◌, [], true, map, IfOk, OnOk, option_copied, pos, ◌≤ℤ◌, slice_get, neg_ℤ, if◌then◌else◌, ◌==◌};
+ghost use Rattle.std.specs.Prelude.{◌≡◌, ◌+◌, ◌++◌, ◌∷◌, [], true, map, IfOk, OnOk, option_copied, neg_ℤ, if◌then◌else◌, ◌==◌};
 ghost use Rattle.std.specs.List.{list_all};
-ghost use Rattle.chc_nums.specs.Types.{IsType, least, greatest};
-ghost use Rattle.chc_form.specs.declared.formula.Formula.{And, Or, Le};
+ghost use Rattle.chc_nums.specs.Types.{IsType, greatest};
+ghost use Rattle.chc_form.specs.declared.formula.Formula.{And};
 ghost use Rattle.chc_form.specs.WellMade.{is_sort, well_made};
-ghost use Rattle.chc_reduce.specs.Literals.{with_value, literal_sum as literal_sum_of, opposite as opposite_of};
-ghost use Rattle.chc_reduce.specs.Reduced.{lower, upper, range_of, ranges, at_most, refuted, granted, goal_parts, constraint, instance_of, instances_at, instances, reduced_rule, reduced_query, reduced_rule_at, reduced_query_at, reduced};
+ghost use Rattle.chc_reduce.specs.Reduced.{lower, upper, range_of, ranges, at_most, refuted, granted, constraint, instance_of, instances_at, instances, reduced_rule, reduced_query, reduced};
 
 use crate::literals::{literal_sum, opposite};
 use chc_form::{App, Con, Formula, Lemma, Lin, Lit, Part, Query, Rule, Sort, System};

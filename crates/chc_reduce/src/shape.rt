@@ -1,10 +1,9 @@
 // The rows of formulas.
 
-ghost use Rattle.std.specs.Prelude.{◌≡◌, ◌++◌, ◌∷◌, [], map, IfOk, OnOk};
+ghost use Rattle.std.specs.Prelude.{◌≡◌, ◌++◌, ◌∷◌, [], false, map, IfOk, OnOk};
 ghost use Rattle.std.specs.List.{list_all};
 ghost use Rattle.chc_form.specs.Linear.{lins};
 ghost use Rattle.chc_reduce.specs.Rows.{rows_of, is_plain, branch_of, joined, only};
-ghost use Rattle.std.specs.Prelude.{false};
 
 use chc_form::{Formula, Lin, Row};
 use chc_nums::{List, NoMemory};

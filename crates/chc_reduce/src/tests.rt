@@ -1,7 +1,7 @@
 // Worked formulas: one predicate over a byte, from 0 on, one more while it is at most 9.
 
 use crate::{branch, is_plain, reduce, rows};
-use chc_form::{App, Con, Lemma, Lin, Lit, LitTerm, Part, Query, Row, Rule, Sort, System};
+use chc_form::{App, Con, Lemma, Lin, Lit, LitTerm, Part, Query, Rule, Sort, System};
 use chc_nums::{List, NoMemory, Ty};
 use std::alloc::Global;
 use std::test::Fail;

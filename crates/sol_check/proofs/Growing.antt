@@ -1,5 +1,5 @@
 -- One verdict more, on the next target.
-use Rattle.std.proofs.Common.{◌≡◌, sym, subst, ℕ, zero, suc, ◌+◌, List, [], ◌∷◌, ◌++◌, length, arith, Result, Ok, Err, OnOk}
+use Rattle.std.proofs.Common.{◌≡◌, sym, subst, ℕ, suc, ◌+◌, List, [], ◌∷◌, ◌++◌, length, arith, Result, Ok, Err, OnOk}
 use Rattle.chc_form.specs.declared.System.{System}
 use Rattle.chc_form.specs.declared.Lemma.{Lemma}
 use Rattle.chc_houdini.specs.declared.RoundStop.{RoundStop}

@@ -1,11 +1,8 @@
 -- The kept lemmas can be a batch, and the pool that they join is the first one.
-use Rattle.std.proofs.Common.{◌≡◌, ◌∙◌, sym, ap, subst, refl, ◌<◌, ◌≤◌, ℕ, List, [], ◌∷◌, ◌++◌, length, true, false, Bool, Option, Some, None, arith, inl, inr}
-use Rattle.std.specs.List.{list_all, Contains}
-use lib.IntN.{ℤ}
+use Rattle.std.proofs.Common.{◌≡◌, refl, ◌≤◌, List, [], ◌∷◌, length, arith}
 use Rattle.chc_form.specs.declared.System.{System}
 use Rattle.chc_form.specs.declared.Lemma.{Lemma}
-use Rattle.chc_form.specs.WellMade.{well_made, of_system}
-use Rattle.pool_state.specs.Content.{Batched, Content, Fits, joined_to}
+use Rattle.pool_state.specs.Content.{Fits, joined_to}
 use Rattle.sol_check.specs.Reports.{first_content}
 
 pub nothing_fits : (s : System) (ls : List Lemma) → Fits (record { system = s; batches = []; lemmas = [] }) (record { system = s; base = []; lemmas = ls })

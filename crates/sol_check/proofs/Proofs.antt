@@ -1,10 +1,9 @@
 -- The proofs of the last round pass.
-use Rattle.std.proofs.Common.{◌≡◌, ◌∙◌, sym, ap, subst, refl, ℕ, suc, ◌≤◌, length, arith, ◌==◌, List, [], ◌∷◌, ◌++◌, Bool, true, false, Option, Some, None, if◌then◌else◌}
+use Rattle.std.proofs.Common.{◌≡◌, sym, ap, subst, refl, ℕ, suc, ◌≤◌, length, arith, ◌==◌, List, [], ◌∷◌, ◌++◌, Bool, true, false, Some, None, if◌then◌else◌}
 use lib.IntN.{ℤ}
 use Rattle.std.specs.List.{list_all, Contains}
 use Rattle.chc_form.specs.declared.Formula.{Formula}
 use Rattle.chc_form.specs.declared.Limits.{Limits}
-use Rattle.chc_form.specs.declared.Lin.{Lin}
 use Rattle.chc_form.specs.declared.Rule.{Rule}
 use Rattle.chc_form.specs.declared.System.{System}
 use Rattle.chc_form.specs.declared.Part.TheVariants as part
@@ -22,9 +21,8 @@ use Rattle.chc_reduce.specs.Rows.{rows_of, is_plain, branch_of}
 use Rattle.chc_reduce.specs.Obligations.{Obligation, at_rules, for_lemmas, obligations}
 use Rattle.chc_reduce.proofs.Ordered.{reduced-ordered}
 use Rattle.chc_reduce.proofs.Sorts.{contains-first, contains-later}
-use Rattle.chc_ask.specs.declared.Asked.{Asked}
 use Rattle.chc_ask.specs.declared.Asked.TheVariants as asked
-use Rattle.chc_ask.specs.Asked.{answered, pointed, left_open, asked_of}
+use Rattle.chc_ask.specs.Asked.{answered, asked_of}
 use Rattle.chc_templates.specs.Candidates.{candidates_of}
 use Rattle.chc_templates.proofs.Laws.{candidates-of, candidates-few}
 use Rattle.chc_houdini.specs.declared.Greatest.{Greatest}

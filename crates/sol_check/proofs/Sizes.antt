@@ -1,11 +1,11 @@
 -- The program of a contract of the first language computes in types that have sizes of Solidity.
-use Rattle.std.proofs.Common.{◌≡◌, ◌∙◌, sym, refl, ap, ℕ, zero, suc, ◌+◌, ◌<◌, ◌≤◌, List, [], ◌∷◌, length, get_or, Bool, true, false, cond, ◌&&◌, Some, None, slice_get, eqb, inl, inr, nat_le, arith}
+use Rattle.std.proofs.Common.{◌≡◌, ◌∙◌, refl, ap, ℕ, suc, ◌+◌, ◌<◌, List, [], ◌∷◌, length, get_or, Bool, true, false, cond, ◌&&◌, eqb, inl, inr, nat_le, arith}
 use Rattle.std.specs.List.{All, list_all}
 use Rattle.std.proofs.lemmas.Bool.Decides.{nat_tests}
 use Rattle.std.proofs.lemmas.Option.{slice_get_cases}
 use lib.IntN.{ℤ}
 use Rattle.chc_nums.specs.Types.{IsSize}
-use Rattle.sol_core.specs.declared.Expr.{Expr, Num, Scalar, Arith, Compare, Cast}
+use Rattle.sol_core.specs.declared.Expr.{Expr, Num, Scalar, Cast}
 use Rattle.sol_core.specs.declared.Stmt.{Set}
 use Rattle.sol_core.specs.declared.Place.TheVariants as place
 use Rattle.chc_nums.specs.declared.Op.{Op}
@@ -19,7 +19,7 @@ use Rattle.sol_first.specs.declared.Function.{Function}
 use Rattle.sol_first.specs.declared.Contract.{Contract}
 use Rattle.sol_first.specs.Typed.{size_of, size_at, StepTyped, IsTyped}
 use Rattle.sol_first.specs.Elaborated.{type_at, sites_of_step, sites_of_steps, cmp_of, condition, converted, marks_over, marks_under, shifted, stmt_of, stmts_of, fun_of, funs_of, program_of}
-use Rattle.sol_eval.specs.Sized.{is_size, type_sized, expr_sized, place_sized, stmt_sized, fun_sized, build_sized, is_sized}
+use Rattle.sol_eval.specs.Sized.{is_size, type_sized, expr_sized, stmt_sized, fun_sized, is_sized}
 use Rattle.sol_eval.proofs.Sizes.{sized-Num, sized-Scalar, sized-Arith, sized-Compare, sized-Cast, sized-Set, sized-Require, sized-Assert}
 
 all-pass : (a b : Bool) → a ≡ true → b ≡ true → (a && b) ≡ true

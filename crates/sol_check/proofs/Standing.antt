@@ -1,5 +1,5 @@
 -- The report of a contract stands.
-use Rattle.std.proofs.Common.{◌≡◌, ◌∙◌, sym, ap, subst, refl, ◌+◌, ◌<◌, ◌≤◌, ℕ, zero, suc, List, [], ◌∷◌, ◌++◌, length, take, take_all, true, Option, Some, None, slice_get, arith, ◌⊎◌, inl, inr, Result, Ok, Err, IfOk}
+use Rattle.std.proofs.Common.{◌≡◌, ◌∙◌, sym, ap, subst, refl, ℕ, suc, List, [], ◌∷◌, ◌++◌, length, take, take_all, true, Option, Some, None, arith}
 use lib.IntN.{ℤ}
 use Rattle.std.specs.List.{Contains, list_all}
 use Rattle.std.specs.Arc.{arc_value}
@@ -18,10 +18,10 @@ use Rattle.chc_reduce.proofs.Truthful.{query-shown}
 use Rattle.chc_ask.specs.declared.Open.{Open}
 use Rattle.chc_ask.specs.declared.Asked.TheVariants as asked
 use Rattle.chc_ask.specs.Asked.{asked_of}
-use Rattle.chc_ask.specs.Open.{MeetsLimit, StaysOpen}
+use Rattle.chc_ask.specs.Open.{StaysOpen}
 use Rattle.chc_ask.proofs.Answers.{asked-refuted, asked-open, open-meets}
 use Rattle.chc_houdini.specs.declared.RoundStop.{RoundStop}
-use Rattle.chc_encode.specs.Sound.{Sound, Exact, Asks}
+use Rattle.chc_encode.specs.Sound.{Sound}
 use Rattle.chc_encode.specs.Systems.{system_of}
 use Rattle.chc_encode.proofs.Laws.{sound, exact, asks}
 use Rattle.chc_templates.specs.Candidates.{candidates_of}
@@ -30,19 +30,16 @@ use Rattle.chc_houdini.specs.declared.Greatest.{Greatest}
 use Rattle.pool_state.specs.Content.{Content, IsPool}
 use Rattle.sol_core.specs.declared.Program.{Program}
 use Rattle.sol_core.specs.declared.Script.{Script}
-use Rattle.sol_meaning.specs.Fits.{Fits}
 use Rattle.sol_probe.specs.FirstHit.{IsFirstHit}
-use Rattle.sol_probe.specs.Probes.{probes}
 use Rattle.sol_probe.proofs.Fitting.{probes-fit}
 use Rattle.sol_first.specs.declared.Contract.{Contract}
 use Rattle.sol_first.specs.Typed.{IsTyped}
 use Rattle.sol_first.specs.Elaborated.{program_of}
 use Rattle.sol_report.specs.declared.Stop.{Stop}
-use Rattle.sol_report.specs.declared.Stop.TheVariants as stop
 use Rattle.sol_report.specs.declared.Verdict.{Verdict}
 use Rattle.sol_report.specs.declared.Verdict.TheVariants as verdict
 use Rattle.sol_report.specs.declared.Report.{Report}
-use Rattle.sol_check.specs.Verdicts.{Basis, query_under, IsOpen, first_of_limit, StopStands, IsSafe, IsUnsafe, IsUnknown, VerdictStands, VerdictsStand, limits}
+use Rattle.sol_check.specs.Verdicts.{Basis, query_under, first_of_limit, StopStands, IsSafe, IsUnsafe, IsUnknown, VerdictStands, VerdictsStand, limits}
 use Rattle.sol_check.specs.Reports.{IsSystemOf, first_content, IsPoolOf, IsReportOf}
 use Rattle.sol_check.specs.Found.{stop_by, VerdictFound, VerdictsFound, IsGreatest, IsReported}
 

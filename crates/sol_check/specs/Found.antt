@@ -1,7 +1,6 @@
 -- What the driver finds, step by step; what it says of the text stands in `Stands`.
-use Rattle.std.specs.Prelude.{◌≡◌, ℕ, suc, List, [], ◌∷◌, length, true, Option, Some, None}
+use Rattle.std.specs.Prelude.{◌≡◌, ℕ, suc, List, [], ◌∷◌, length, Option, Some, None}
 use Rattle.std.specs.Arc.{arc_value}
-use lib.IntN.{ℤ}
 use Rattle.chc_form.specs.declared.System.{System}
 use Rattle.chc_form.specs.declared.Lemma.{Lemma}
 use Rattle.chc_form.specs.declared.Part.TheVariants as part

@@ -3,8 +3,6 @@
 
 mod report;
 mod text;
-#[cfg(test)]
-mod tests;
 
 pub use report::{Report, Stop, Verdict};
 pub use text::lines;

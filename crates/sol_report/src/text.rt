@@ -1,13 +1,12 @@
 // The report's text, line by line.
 
 ghost use Rattle.std.specs.Prelude.{◌≡◌, ◌∷◌, ◌++◌, [], ◌+◌, IfOk, OnOk, string_bytes, slice_get, codes, map};
-ghost use Rattle.sol_script.specs.ScriptText.{script_lines};
 ghost use Rattle.sol_report.specs.Texts.{kind_word, why_word, stop_word, verdict_words, site_line, line_at, indented, violation_lines, target_lines, safe_count, unsafe_count, unknown_count, count_words, last_line, lines_of};
 
 use crate::report::{Report, Stop, Verdict};
 use chc_ask::{Open, Why};
 use chc_nums::{List, Name, NoMemory};
-use sol_core::{Kind, Program, Script, Site};
+use sol_core::{Kind, Program, Site};
 use std::alloc::Global;
 
 fn kind_word(kind: Kind) -> &'static str
@@ -57,7 +56,11 @@ fn verdict_words(alloc: Global, verdict: &Verdict) -> Result<String, NoMemory>
     match verdict {
         Verdict::Safe(_, _) => Ok(String::from_str(alloc, "safe")?),
         Verdict::Unsafe { .. } => Ok(String::from_str(alloc, "unsafe")?),
-        Verdict::Unknown { templates, pool, .. } => open_words(alloc, templates, pool),
+        Verdict::Unknown {
+            templates,
+            pool,
+            ..
+        } => open_words(alloc, templates, pool),
     }
 }
 
@@ -90,11 +93,7 @@ fn indented(alloc: Global, line: &Name) -> Result<Name, NoMemory>
     Ok(Name::from_string(format!(in alloc; "  {line}")?))
 }
 
-fn add_script(
-    alloc: Global,
-    script: &[Name],
-    lines: &mut List<Name>,
-) -> Result<(), NoMemory>
+fn add_script(alloc: Global, script: &[Name], lines: &mut List<Name>) -> Result<(), NoMemory>
     ensures { OnOk result (lines.new ≡ lines.old ++ map indented script.now) }
 {
     for line in script {

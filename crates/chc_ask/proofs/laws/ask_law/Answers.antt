@@ -1,4 +1,3 @@
-use Rattle.std.proofs.Common.{◌≡◌}
 use Rattle.chc_ask.proofs.Answers.{asked-refuted}
 use Rattle.chc_ask.proofs.laws.ask_law.Goals as goal
 

@@ -1,4 +1,3 @@
-use Rattle.std.proofs.Common.{◌≡◌}
 use Rattle.chc_reduce.proofs.Truthful.{rule-shown, query-shown}
 use Rattle.chc_reduce.proofs.laws.reduction_law.Goals as goal
 

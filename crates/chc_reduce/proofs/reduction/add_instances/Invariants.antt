@@ -1,4 +1,4 @@
-use Rattle.std.proofs.Common.{◌≡◌, ◌++◌, map, drop}
+use Rattle.std.proofs.Common.{◌≡◌, ◌++◌, drop}
 use Rattle.chc_reduce.specs.Reduced.{instances}
 use Rattle.chc_reduce.proofs.reduction.add_instances.Given as goal
 

@@ -1,4 +1,4 @@
-use Rattle.std.proofs.Common.{◌≡◌, ◌++◌, map, drop}
+use Rattle.std.proofs.Common.{◌≡◌, ◌++◌, drop}
 use Rattle.chc_reduce.specs.Reduced.{instances_at}
 use Rattle.chc_reduce.proofs.reduction.add_instances_at.Given as goal
 
