@@ -1,5 +1,5 @@
 -- What some bytes give is found of the file that holds them.
-use Rattle.std.proofs.Common.{◌≡◌, ◌⊎◌, Bool, true, false, if◌then◌else◌, inl, inr, ◌≤◌, ◌<◌, ℕ, List, [], ◌∷◌, refl, subst, sym, Option, Some, None, Result, Ok, Err, IfOk, length, IfSome, arith}
+use Rattle.std.proofs.Common.{◌≡◌, ◌⊎◌, Bool, true, false, if◌then◌else◌, inl, inr, ◌≤◌, ℕ, List, refl, subst, sym, Option, Some, None, Result, Ok, Err, IfOk, length, IfSome}
 use Rattle.chc_nums.specs.declared.NoMemory.{NoMemory}
 use Rattle.sol_report.specs.declared.Report.{Report}
 use Rattle.sol_report.specs.Texts.{text_of}
@@ -8,7 +8,7 @@ use Rattle.sol_driver.specs.declared.outcome.Status.TheVariants as status
 use Rattle.sol_driver.specs.declared.find.Finding.{Finding}
 use Rattle.sol_driver.specs.declared.find.Finding.TheVariants as finding
 use Rattle.sol_driver.specs.Stands.{Stands}
-use Rattle.sol_driver.specs.Ends.{Asked, Names, WasRead, Found, Reported}
+use Rattle.sol_driver.specs.Ends.{Asked, Names, WasRead, Found}
 use Rattle.sol_driver.specs.Texts.{is_unsafe, is_unknown, some_verdict, status_of}
 use Rattle.sol_driver.specs.Findings.{IsFinding, IsJudged}
 

@@ -8,7 +8,6 @@ use Rattle.sol_report.specs.Texts.{text_of}
 use Rattle.sol_driver.specs.declared.outcome.Status.{Status}
 use Rattle.sol_driver.specs.declared.outcome.Status.TheVariants as status
 use Rattle.sol_driver.specs.declared.outcome.Outcome.{Outcome}
-use Rattle.sol_driver.specs.declared.find.Finding.{Finding}
 use Rattle.sol_driver.specs.declared.find.Finding.TheVariants as finding
 use Rattle.sol_driver.specs.Ends.{Asked, Told, Found, ToldWithoutMemory, before, within, Ends}
 use Rattle.sol_driver.specs.Findings.{IsFinding}
@@ -35,7 +34,7 @@ found-ends a t status.TooLong r text _ f (whole w) = record { text = text; found
 found-ends a t status.WriteFault r text _ f (whole w) = absurd f
 found-ends a t status.NoMemory r text _ f (whole w) = absurd f
 found-ends a t s r text _ f (part rose w) = record { status = s; text = text; found = f; written = w; rose = rose }
-found-ends a t s r text _ f (stopped between w v) = within f between w v
+found-ends a t s r text _ f (stopped between w v) = within s text f between w v
 found-ends a t s r text _ f (without_memory w) = before w
 
 pub line-ends : (a : Asked) (t : Told) (s : Status) (o : Outcome) → IsFinding a (finding.Line s) → TellsText s None (status_line s) t o → Ends a t o

@@ -1,12 +1,12 @@
 -- Writing part by part.
-use Rattle.std.proofs.Common.{◌≡◌, ◌∙◌, sym, ap, refl, ℕ, zero, suc, ◌+◌, ◌-◌, ◌^◌, min, ◌<◌, ◌≤◌, List, [], ◌∷◌, ◌++◌, length, take, drop, get_or, Option, Some, None, Result, Ok, Err, arith, append_assoc, append-nil, inl, inr}
+use Rattle.std.proofs.Common.{◌≡◌, ◌∙◌, sym, ap, refl, ℕ, zero, suc, ◌+◌, ◌<◌, ◌≤◌, List, [], ◌∷◌, ◌++◌, length, take, drop, get_or, Option, Some, None, Ok, Err, arith, append_assoc, append-nil, inl, inr}
 use Rattle.std.specs.List.{concat}
 use Rattle.std.proofs.lemmas.List.{take-append-le, at_drop_more}
 use Rattle.std.proofs.lemmas.Bool.{cases_lt}
 use Rattle.std.proofs.Math.Seq.{take-append_seam, take-append-add}
 use Rattle.sol_outside.specs.declared.SinkFault.{SinkFault}
 use Rattle.sol_outside.specs.declared.SinkFault.TheVariants as sink
-use Rattle.sol_outside.specs.Causes.{Rose, Appended, AppendedPart, Puts}
+use Rattle.sol_outside.specs.Causes.{Appended, AppendedPart, Puts}
 use Rattle.sol_driver.specs.Told.{Tells}
 
 pub appended-nothing : (old : Option (List ℕ)) → Appended old old []

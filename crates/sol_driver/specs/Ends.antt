@@ -1,6 +1,5 @@
 -- How a command ends: the clause of the top calls.
 use Rattle.std.specs.Prelude.{ℕ, ◌≡◌, ◌<◌, ◌≤◌, List, length, Option, Some, None, IfSome}
-use Rattle.std.specs.List.{concat}
 use Rattle.std.specs.declared.string.String.{String}
 use Rattle.std.specs.declared.alloc.Global.{Global}
 use Rattle.sol_outside.specs.Causes.{Rose, Appended, AppendedPart}
@@ -102,7 +101,7 @@ pub record ToldPart (a : Asked) (t : Told) (r : Option Report) : Type 0 where
 -- so was tried, and a part of it was written.
 pub data ToldWithoutMemory (a : Asked) (t : Told) : Option Report → Type 0 where
   before : AppendedPart t.written_before t.written_after (status_line status.NoMemory) → ToldWithoutMemory a t None
-  within : {s : Status} {r : Option Report} {text : List ℕ} → Found a s r text → (between : Option (List ℕ)) → AppendedPart t.written_before between text → AppendedPart between t.written_after (status_line status.NoMemory) → ToldWithoutMemory a t r
+  within : (s : Status) (text : List ℕ) {r : Option Report} → Found a s r text → (between : Option (List ℕ)) → AppendedPart t.written_before between text → AppendedPart between t.written_after (status_line status.NoMemory) → ToldWithoutMemory a t r
 
 -- Each status but those of a failed put and of want of memory comes only by what was found, which was then written
 -- whole. The causes of any two of them exclude each other, so each comes exactly where its cause is, but that a failed

@@ -1,5 +1,5 @@
 -- What is known before anything is written.
-use Rattle.std.specs.Prelude.{ℕ, List, Option, Some, None, Result, Ok, Err}
+use Rattle.std.specs.Prelude.{ℕ, List, Some, None, Result, Ok, Err}
 use Rattle.sol_driver.specs.Refusals.{IsRefused, IsRefusedWith}
 use Rattle.sol_driver.specs.Stands.{Stands}
 use Rattle.sol_driver.specs.declared.outcome.Status.TheVariants as status

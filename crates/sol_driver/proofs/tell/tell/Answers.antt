@@ -1,4 +1,4 @@
-use Rattle.std.proofs.Common.{◌<◌, ◌+◌, ◌≡◌, ◌≤◌, length, drop, arith, List, ℕ, []}
+use Rattle.std.proofs.Common.{◌<◌, ◌+◌, ◌≤◌, length, drop, arith}
 use Rattle.std.specs.List.{concat}
 use Rattle.std.proofs.lemmas.List.{at_drop_all}
 use Rattle.sol_driver.proofs.Writing.{so_far-start, so_far-more, so_far-stop, so_far-end, concat-turn}
