@@ -78,12 +78,12 @@ fn system(alloc: Global) -> Result<System, NoMemory> {
     })
 }
 
-// x <= k
-fn lemma(alloc: Global, k: i128) -> Result<Lemma, NoMemory> {
+// x + konst <= 0
+fn lemma(alloc: Global, konst: i128) -> Result<Lemma, NoMemory> {
     let mut terms = List::new(alloc);
     terms.push((LitTerm::Arg(0), 1))?;
     let mut lits = List::new(alloc);
-    lits.push(Lit { terms, konst: -k })?;
+    lits.push(Lit { terms, konst })?;
     Ok(Lemma {
         pred: 0,
         keys: List::new(alloc),
@@ -91,25 +91,25 @@ fn lemma(alloc: Global, k: i128) -> Result<Lemma, NoMemory> {
     })
 }
 
-// What the query, or the rule with a lemma as its goal, is answered under lemmas x <= k.
+// What the query, or the rule with a lemma as its goal, is answered under lemmas x + konst <= 0.
 fn asked(
     alloc: Global,
     goal: Option<i128>,
-    bounds: &[i128],
+    constants: &[i128],
     limits: Limits,
 ) -> Result<Option<Asked>, NoMemory> {
     let s = system(alloc)?;
     let mut lemmas = Vec::new(alloc);
-    for k in bounds {
-        lemmas.push(lemma(alloc, *k)?)?;
+    for konst in constants {
+        lemmas.push(lemma(alloc, *konst)?)?;
     }
     if !well_made(&s) {
         return Ok(None);
     }
     match goal {
         None => Ok(Some(ask(alloc, &s, Part::Query(0), None, lemmas.as_slice(), limits)?)),
-        Some(k) => {
-            let goal = lemma(alloc, k)?;
+        Some(konst) => {
+            let goal = lemma(alloc, konst)?;
             Ok(Some(ask(
                 alloc,
                 &s,
@@ -146,7 +146,7 @@ fn is_point(answer: &Option<Asked>, branch: &[u32], point: &[i128]) -> bool {
 #[test]
 fn query_is_refuted_under_a_lemma(rt: HostRuntime) -> Result<(), Fail> {
     let alloc = rt.alloc();
-    let answer = asked(alloc, None, [10, 11].as_slice(), LIMITS)?;
+    let answer = asked(alloc, None, [-10, -11].as_slice(), LIMITS)?;
     assert!(rt; is_refuted(&answer, [0, 0, 1, 1, 0].as_slice()));
     Ok(())
 }
@@ -154,7 +154,7 @@ fn query_is_refuted_under_a_lemma(rt: HostRuntime) -> Result<(), Fail> {
 #[test]
 fn query_is_left_open(rt: HostRuntime) -> Result<(), Fail> {
     let alloc = rt.alloc();
-    let answer = asked(alloc, None, [11].as_slice(), LIMITS)?;
+    let answer = asked(alloc, None, [-11].as_slice(), LIMITS)?;
     assert!(rt; is_point(&answer, [0u32].as_slice(), [11].as_slice()));
     Ok(())
 }
@@ -162,9 +162,9 @@ fn query_is_left_open(rt: HostRuntime) -> Result<(), Fail> {
 #[test]
 fn lemma_is_shown_at_a_head(rt: HostRuntime) -> Result<(), Fail> {
     let alloc = rt.alloc();
-    let answer = asked(alloc, Some(10), [].as_slice(), LIMITS)?;
+    let answer = asked(alloc, Some(-10), [].as_slice(), LIMITS)?;
     assert!(rt; is_refuted(&answer, [0, 0, 0, 0, 1, 1, 0, 1].as_slice()));
-    let answer = asked(alloc, Some(9), [9].as_slice(), LIMITS)?;
+    let answer = asked(alloc, Some(-9), [-9].as_slice(), LIMITS)?;
     assert!(rt; is_point(&answer, [0u32].as_slice(), [9, 10].as_slice()));
     Ok(())
 }
@@ -176,7 +176,7 @@ fn pivots_run_out(rt: HostRuntime) -> Result<(), Fail> {
         pivots: 0,
         nodes: 100,
     };
-    match asked(alloc, None, [11].as_slice(), none)? {
+    match asked(alloc, None, [-11].as_slice(), none)? {
         Some(
             Asked::Open(
                 Open {

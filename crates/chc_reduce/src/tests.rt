@@ -1,7 +1,7 @@
 // Worked formulas: one predicate over a byte, from 0 on, one more while it is at most 9.
 
 use crate::{branch, is_plain, reduce, rows};
-use chc_form::{App, Con, Lemma, Lin, Lit, LitTerm, Part, Query, Rule, Sort, System};
+use chc_form::{App, Con, Lemma, Lin, Lit, LitTerm, Part, Query, Row, Rule, Sort, System};
 use chc_nums::{List, NoMemory, Ty};
 use std::alloc::Global;
 use std::test::Fail;
@@ -71,16 +71,16 @@ fn system(alloc: Global) -> Result<System, NoMemory> {
     })
 }
 
-// x <= k, as one literal, or as two of which the second is x >= more
-fn lemma(alloc: Global, k: i128, more: Option<i128>) -> Result<Lemma, NoMemory> {
+// x + konst <= 0, as one literal, or as two of which the second is more - x <= 0
+fn lemma(alloc: Global, konst: i128, more: Option<i128>) -> Result<Lemma, NoMemory> {
     let mut lits = List::new(alloc);
     let mut terms = List::new(alloc);
     terms.push((LitTerm::Arg(0), 1))?;
-    lits.push(Lit { terms, konst: -k })?;
-    if let Some(k) = more {
+    lits.push(Lit { terms, konst })?;
+    if let Some(konst) = more {
         let mut terms = List::new(alloc);
         terms.push((LitTerm::Arg(0), -1))?;
-        lits.push(Lit { terms, konst: k })?;
+        lits.push(Lit { terms, konst })?;
     }
     Ok(Lemma {
         pred: 0,
@@ -104,9 +104,9 @@ fn reduces_a_rule(rt: HostRuntime) -> Result<(), Fail> {
         assert!(rt; false, "the system is well made");
         return Ok(());
     }
-    let goal = lemma(alloc, 10, None)?;
+    let goal = lemma(alloc, -10, None)?;
     let mut lemmas = Vec::new(alloc);
-    lemmas.push(lemma(alloc, 10, None)?)?;
+    lemmas.push(lemma(alloc, -10, None)?)?;
     let f = reduce(alloc, &s, Part::Rule(0), Some(&goal), lemmas.as_slice())?;
     let rows = rows(alloc, &f)?;
     for (at, terms, konst) in [
@@ -137,8 +137,8 @@ fn leaves_choices_out(rt: HostRuntime) -> Result<(), Fail> {
         return Ok(());
     }
     let mut lemmas = Vec::new(alloc);
-    lemmas.push(lemma(alloc, 3, Some(7))?)?;
-    lemmas.push(lemma(alloc, 10, None)?)?;
+    lemmas.push(lemma(alloc, -3, Some(7))?)?;
+    lemmas.push(lemma(alloc, -10, None)?)?;
     let f = reduce(alloc, &s, Part::Query(0), None, lemmas.as_slice())?;
     let rows = rows(alloc, &f)?;
     for (at, terms, konst) in [
