@@ -34,7 +34,7 @@ fn pointed(plain: bool, branch: List<u32>, point: List<i128>, denominator: i128)
     }
 }
 
-fn answered(plain: bool, branch: List<u32>, lp: Lp) -> Asked
+pub fn answered(plain: bool, branch: List<u32>, lp: Lp) -> Asked
     ensures { result ≡ answered plain branch lp }
 {
     match lp {
@@ -46,7 +46,7 @@ fn answered(plain: bool, branch: List<u32>, lp: Lp) -> Asked
 }
 
 // The run on some rows, of which there are fewer than 2^31.
-fn run(alloc: Global, rows: &[Row], pivots: u32) -> Result<Lp, NoMemory>
+pub fn run(alloc: Global, rows: &[Row], pivots: u32) -> Result<Lp, NoMemory>
     requires { AllAscend (lins rows.now) }
     ensures { IfOk result (λ a. a ≡ tableau_run (lins rows.now) pivots) }
 {

@@ -3,11 +3,13 @@
 #![tactic(auto)]
 
 mod asking;
+mod goals;
 mod laws;
 mod open;
 #[cfg(test)]
 mod tests;
 
 pub use asking::ask;
+pub use goals::{Answer, ask_goal};
 pub use laws::ask_law;
 pub use open::{Asked, Open, Why};

@@ -1,10 +1,11 @@
 // Worked questions: one predicate over a byte, from 0 on, one more while it is at most 9.
 
-use crate::{Asked, Open, Why, ask};
+use crate::{Answer, Asked, Open, Why, ask, ask_goal};
 use chc_form::{
     App, Con, Lemma, Limits, Lin, Lit, LitTerm, Part, Query, Rule, Sort, System, well_made,
 };
 use chc_nums::{List, NoMemory, Ty};
+use chc_reduce::Grounds;
 use std::alloc::Global;
 use std::test::Fail;
 
@@ -187,5 +188,25 @@ fn pivots_run_out(rt: HostRuntime) -> Result<(), Fail> {
         ) => {}
         _ => assert!(rt; false, "pivots run out"),
     }
+    Ok(())
+}
+
+#[test]
+fn goals_are_asked_in_turn(rt: HostRuntime) -> Result<(), Fail> {
+    let alloc = rt.alloc();
+    let s = system(alloc)?;
+    if !well_made(&s) || s.rules.is_empty() {
+        assert!(rt; false, "the system is well made");
+        return Ok(());
+    }
+    let mut lemmas = Vec::new(alloc);
+    lemmas.push(lemma(alloc, -9)?)?;
+    let grounds = Grounds::new(alloc, &s, 0, lemmas.as_slice())?;
+    let Answer { asked, grounds } = ask_goal(alloc, grounds, &lemma(alloc, -9)?, LIMITS)?;
+    assert!(rt; is_point(&Some(asked), [0u32].as_slice(), [9, 10].as_slice()));
+    let Answer { asked, grounds } = ask_goal(alloc, grounds, &lemma(alloc, -10)?, LIMITS)?;
+    assert!(rt; is_refuted(&Some(asked), [0, 0, 0, 0, 1, 1, 0, 1, 0].as_slice()));
+    let Answer { asked, .. } = ask_goal(alloc, grounds, &lemma(alloc, -9)?, LIMITS)?;
+    assert!(rt; is_point(&Some(asked), [0u32].as_slice(), [9, 10].as_slice()));
     Ok(())
 }

@@ -6,3 +6,4 @@ pub mod Satisfying
 pub mod Sums
 pub mod Ordered
 pub mod Truthful
+pub mod Goals

@@ -30,15 +30,15 @@ use Rattle.chc_reduce.proofs.Sums.{literal-ascends}
 use Rattle.chc_reduce.proofs.Sorts.{got-contained, contains-first, contains-later}
 
 -- the rows of each formula are in order
-abbrev AllOrdered : List Formula → Type 0
+abbrev pub AllOrdered : List Formula → Type 0
 AllOrdered [] = Unit {0}
 AllOrdered (f ∷ fs) = AllAscend (rows_of f) × AllOrdered fs
 
-ascend-append : (ks ls : List Lin) → AllAscend ks → AllAscend ls → AllAscend (ks ++ ls)
+pub ascend-append : (ks ls : List Lin) → AllAscend ks → AllAscend ls → AllAscend (ks ++ ls)
 ascend-append [] ls h k = k
 ascend-append (l ∷ ks) ls h k = (h.0, ascend-append ks ls h.1 k)
 
-ordered-append : (fs gs : List Formula) → AllOrdered fs → AllOrdered gs → AllOrdered (fs ++ gs)
+pub ordered-append : (fs gs : List Formula) → AllOrdered fs → AllOrdered gs → AllOrdered (fs ++ gs)
 ordered-append [] gs h k = k
 ordered-append (f ∷ fs) gs h k = (h.0, ordered-append fs gs h.1 k)
 
@@ -46,7 +46,7 @@ joined-ordered : (fs : List Formula) → AllOrdered fs → AllAscend (joined (ma
 joined-ordered [] h = tt
 joined-ordered (f ∷ fs) h = ascend-append (rows_of f) (joined (map rows_of fs)) h.0 (joined-ordered fs h.1)
 
-and-ordered : (fs : List Formula) → AllOrdered fs → AllAscend (rows_of (And fs))
+pub and-ordered : (fs : List Formula) → AllOrdered fs → AllAscend (rows_of (And fs))
 and-ordered fs h = subst AllAscend (sym (rows_of-And fs)) (joined-ordered fs h)
 
 le-ordered : (l : Lin) → Ascend l.terms → AllAscend (rows_of (Le l))
@@ -66,7 +66,7 @@ one-not_zero e = absurd (omega (arith, ints, e))
 minus-not_zero : negsuc 0 ≢ pos 0
 minus-not_zero e = absurd (omega (arith, ints, e))
 
-ranges-ordered : (x : ℕ) (ss : List Sort) → AllOrdered (ranges x ss)
+pub ranges-ordered : (x : ℕ) (ss : List Sort) → AllOrdered (ranges x ss)
 ranges-ordered x [] = tt
 ranges-ordered x (sort.Whole t ∷ ss) = (and-ordered (Le (lower x t) ∷ Le (upper x t) ∷ []) (le-ordered (lower x t) (minus-not_zero, tt), (le-ordered (upper x t) (one-not_zero, tt), tt)), ranges-ordered (suc x) ss)
 ranges-ordered x (sort.Free ∷ ss) = ranges-ordered (suc x) ss
@@ -80,7 +80,7 @@ refuted-by : (p : App) (o : Option Lit) → AllAscend (rows_of (at_most (with_va
 refuted-by p None = and-ordered [] tt
 refuted-by p (Some m) = at_most-ordered p m (literal_sum p m) refl
 
-refuted-ordered : (p : App) (ls : List Lit) → AllOrdered (map (refuted p) ls)
+pub refuted-ordered : (p : App) (ls : List Lit) → AllOrdered (map (refuted p) ls)
 refuted-ordered p [] = tt
 refuted-ordered p (l ∷ ls) = (refuted-by p (opposite l), refuted-ordered p ls)
 
@@ -102,7 +102,7 @@ constraint-ordered (con.Sel m ks x) h = and-ordered [] tt
 constraint-ordered (con.Sto n m ks e) h = and-ordered [] tt
 constraint-ordered (con.Zero m) h = and-ordered [] tt
 
-constraints-ordered : (cs : List Con) → ((c : Con) → Contains cs c → AllAscend (sums_of c)) → AllOrdered (map constraint cs)
+pub constraints-ordered : (cs : List Con) → ((c : Con) → Contains cs c → AllAscend (sums_of c)) → AllOrdered (map constraint cs)
 constraints-ordered [] h = tt
 constraints-ordered (c ∷ cs) h = (constraint-ordered c (h c (contains-first c cs)), constraints-ordered cs (λ d i. h d (contains-later c d cs i)))
 
@@ -119,7 +119,7 @@ instances_at-ordered p [] = tt
 instances_at-ordered p (l ∷ ls) =
     ordered-append (if l.pred == p.pred then instance_of p l l.keys else []) (instances_at p ls) (either-ordered (l.pred == p.pred) (instance_of p l l.keys) (instance-ordered p l l.keys)) (instances_at-ordered p ls)
 
-instances-ordered : (body : List App) (ls : List Lemma) → AllOrdered (instances body ls)
+pub instances-ordered : (body : List App) (ls : List Lemma) → AllOrdered (instances body ls)
 instances-ordered [] ls = tt
 instances-ordered (p ∷ body) ls = ordered-append (instances_at p ls) (instances body ls) (instances_at-ordered p ls) (instances-ordered body ls)
 
@@ -146,5 +146,9 @@ query-at-ordered s i (Some q) ls w e = query-ordered q ls (λ c j. query-ascends
 pub reduced-ordered : (s : System) (p : Part) (goal : Option Lemma) (ls : List Lemma) → well_made s ≡ true → AllAscend (rows_of (reduced s p goal ls))
 reduced-ordered s (part.Rule i) goal ls w = rule-at-ordered s i (slice_get s.rules i) goal ls w refl
 reduced-ordered s (part.Query i) goal ls w = query-at-ordered s i (slice_get s.queries i) ls w refl
+
+-- a goal's own rows
+pub goal-rows-ordered : (p : App) (goal : Lemma) → AllAscend (rows_of (And (map (refuted p) goal.lits)))
+goal-rows-ordered p goal = and-ordered (map (refuted p) goal.lits) (refuted-ordered p goal.lits)
 
 pub ruleset orders = (reduced-ordered)

@@ -3,6 +3,7 @@
 //! rows say of it is `rows_law`.
 #![tactic(auto)]
 
+mod grounds;
 mod laws;
 mod literals;
 mod reduction;
@@ -10,6 +11,7 @@ mod shape;
 #[cfg(test)]
 mod tests;
 
+pub use grounds::{Grounds, goal_rows};
 pub use laws::{order_law, reduction_law, rows_law};
 pub use reduction::reduce;
 pub use shape::{branch, is_plain, rows};

@@ -71,7 +71,7 @@ fn add_range(alloc: Global, x: u32, sort: &Sort, parts: &mut Items<Formula>) -> 
 }
 
 #[tactic(auto, using(crate::proofs::Sorts::turns))]
-fn add_ranges(alloc: Global, sorts: &[Sort], parts: &mut Items<Formula>) -> Result<(), NoMemory>
+pub fn add_ranges(alloc: Global, sorts: &[Sort], parts: &mut Items<Formula>) -> Result<(), NoMemory>
     requires { list_all is_sort sorts.now ≡ true }
     ensures { OnOk result (parts.new ≡ parts.old ++ ranges 0 sorts.now) }
 {
@@ -122,7 +122,7 @@ fn granted(alloc: Global, atom: &App, literal: &Lit) -> Result<Formula, NoMemory
     Ok(at_most(alloc, literal_sum(alloc, atom, literal)?))
 }
 
-fn add_goal(
+pub fn add_goal(
     alloc: Global,
     head: &App,
     literals: &[Lit],
@@ -225,7 +225,7 @@ fn add_instances(
 // ---- the whole
 
 // What constraints and the lemmas of the body's atoms say, after parts that there are.
-fn grounds(
+pub fn grounds(
     alloc: Global,
     parts: Items<Formula>,
     cons: &[Con],

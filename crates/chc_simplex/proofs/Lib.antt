@@ -1,5 +1,6 @@
 pub mod Steps
 pub mod Merging
+pub mod Rewriting
 pub mod Turns
 pub mod Orders
 pub mod Division

@@ -79,6 +79,10 @@ abbrev pub rewritten : ℕ → Line → Tableau → Option Tableau
 rewritten e entered [] = Some []
 rewritten e entered (o ∷ os) = with_value (rewritten_line e entered o) (λ p. with_value (rewritten e entered os) (λ ps. Some (p ∷ ps)))
 
+-- the tableau with e put into the line at a place
+unfoldable pub rewritten_at : ℕ → Line → Tableau → ℕ → Option Tableau
+rewritten_at e entered tab v = with_value (rewritten_line e entered (line_at tab v)) (λ p. Some (slice_set tab v p))
+
 -- the tableau after s left and e entered with this line
 abbrev pub exchanged : Tableau → ℕ → ℕ → Line → Option Tableau
 exchanged tab s e entered = with_value (rewritten e entered (slice_set tab s None)) (λ ps. Some (slice_set ps e (Some entered)))

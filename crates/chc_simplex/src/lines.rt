@@ -2,7 +2,7 @@
 
 ghost use Rattle.std.specs.Prelude.{◌≡◌, slice_set, unsigned_abs};
 ghost use Rattle.chc_simplex.specs.Outcomes.{Gives};
-ghost use Rattle.chc_simplex.specs.Lines.{line_at, terms_of, denominator_of, common, divided_terms, divided_line, reduced, turned_up, turned_down, turned, with_entered, substituted, rewritten_line, rewritten, exchanged, pivot};
+ghost use Rattle.chc_simplex.specs.Lines.{line_at, terms_of, denominator_of, common, divided_terms, divided_line, reduced, turned_up, turned_down, turned, with_entered, rewritten_at, rewritten, exchanged, pivot};
 
 use crate::data::{Line, Stop};
 use crate::numbers::{gcd, quotient, signed};
@@ -191,57 +191,45 @@ fn with_entered(
     reduced(alloc, denominator, terms.as_slice())
 }
 
-// A line with the entering variable put in. One without it stays as it is.
-fn substituted(alloc: Global, entering: usize, entered: &Line, line: &Line) -> Result<Line, Stop>
-    ensures { Gives result (substituted entering entered.now line.now) }
-{
-    let a = coefficient(line.terms.as_slice(), entering);
-    if a == 0 {
-        let terms = line.terms.copy(alloc)?;
-        Ok(Line {
-            denominator: line.denominator,
-            terms,
-        })
-    } else {
-        with_entered(alloc, entering, entered, a, line)
-    }
-}
-
-fn rewritten_line(
+// The tableau with the entering variable put into the line at a place. A line without it stays as it is.
+#[tactic(auto, unfolding(crate::specs::Lines::rewritten_at), using(crate::proofs::Rewriting::kept))]
+fn rewritten_at(
     alloc: Global,
     entering: usize,
     entered: &Line,
-    line: &Option<Line>,
-) -> Result<Option<Line>, Stop>
-    ensures { Gives result (rewritten_line entering entered.now line.now) }
+    tableau: List<Option<Line>>,
+    at: usize,
+) -> Result<List<Option<Line>>, Stop>
+    ensures { Gives result (rewritten_at entering entered.now tableau at) }
 {
-    match line {
-        None => Ok(None),
-        Some(line) => {
-            let made = substituted(alloc, entering, entered, line)?;
-            Ok(Some(made))
-        }
+    let mut tableau = tableau;
+    let Some(Some(line)) = tableau.get(at) else {
+        return Ok(tableau);
+    };
+    let a = coefficient(line.terms.as_slice(), entering);
+    if a == 0 {
+        return Ok(tableau);
     }
+    let made = with_entered(alloc, entering, entered, a, line)?;
+    put(&mut tableau, at, Some(made));
+    Ok(tableau)
 }
 
-// Each line with the entering variable put in.
-#[tactic(auto, using(crate::proofs::Steps::joins))]
+// Each line with the entering variable put in. The others are not touched, so a pivot takes memory for changed lines alone.
+#[tactic(auto, using(crate::proofs::Rewriting::turns))]
 fn rewritten(
     alloc: Global,
     entering: usize,
     entered: &Line,
-    tableau: &[Option<Line>],
+    tableau: List<Option<Line>>,
 ) -> Result<List<Option<Line>>, Stop>
-    ensures { Gives result (rewritten entering entered.now tableau.now) }
+    ensures { Gives result (rewritten entering entered.now tableau) }
 {
-    let mut made = List::new(alloc);
-    let mut rest = tableau;
-    while let [line, more @ ..] = rest {
-        let next = rewritten_line(alloc, entering, entered, line)?;
-        made.push(next)?;
-        rest = more;
+    let mut tableau = tableau;
+    for at in 0..tableau.len() {
+        tableau = rewritten_at(alloc, entering, entered, tableau, at)?;
     }
-    Ok(made)
+    Ok(tableau)
 }
 
 fn exchanged(
@@ -255,7 +243,7 @@ fn exchanged(
 {
     let mut tableau = tableau;
     put(&mut tableau, leaving, None);
-    let mut made = rewritten(alloc, entering, &entered, tableau.as_slice())?;
+    let mut made = rewritten(alloc, entering, &entered, tableau)?;
     put(&mut made, entering, Some(entered));
     Ok(made)
 }

@@ -1,0 +1,84 @@
+// A rule under lemmas, for many goals.
+
+ghost use Rattle.std.specs.Prelude.{◌≡◌, ◌<◌, ◌++◌, true, length, map, IfOk};
+ghost use Rattle.std.specs.List.{list_all};
+ghost use Rattle.chc_form.specs.declared.formula.Formula.{And};
+ghost use Rattle.chc_form.specs.Linear.{lins};
+ghost use Rattle.chc_form.specs.WellMade.{is_sort, well_made};
+ghost use Rattle.chc_reduce.specs.Reduced.{ranges, refuted, constraint, instances};
+ghost use Rattle.chc_reduce.specs.Rows.{rows_of};
+ghost use Rattle.chc_reduce.specs.Grounds.{goal_part, AreMadeOf, AreGrounds, InOrder};
+
+use crate::reduction::{add_goal, add_ranges, grounds};
+use crate::shape::{branch, is_plain, rows};
+use chc_form::{App, Formula, Lemma, Row, Rule, System};
+use chc_nums::{List, NoMemory};
+use sqlite_items::Items;
+use std::alloc::Global;
+
+/// A rule under lemmas, but for the lemma that is to be shown at its head: the rows before those of that goal, the rows
+/// after them, the branch, and whether there is no choice. Made once, it serves one goal after another.
+#[derive(Drop)]
+pub struct Grounds {
+    pub head: App,
+    pub before: List<Row>,
+    pub after: List<Row>,
+    pub branch: List<u32>,
+    pub plain: bool,
+}
+
+impl Grounds {
+    /// Those of a rule of a system, by its number. `NoMemory` also stands for 2^32 variables.
+    #[tactic(auto, using(crate::proofs::Goals::grounds))]
+    pub fn new(alloc: Global, s: &System, rule: u32, lemmas: &[Lemma]) -> Result<Grounds, NoMemory>
+        requires made { well_made s.now ≡ true }
+        requires there { rule < length s.now.rules }
+        ensures are { IfOk result (λ g. AreGrounds s.now rule lemmas.now g) }
+        ensures order { IfOk result (λ g. InOrder g) }
+    {
+        let rule = &s.rules.as_slice()[rule as usize];
+        grounds_of(alloc, rule, lemmas)
+    }
+}
+
+fn grounds_of(alloc: Global, rule: &Rule, lemmas: &[Lemma]) -> Result<Grounds, NoMemory>
+    requires { list_all is_sort rule.now.vars ≡ true }
+    ensures { IfOk result (λ g. AreMadeOf rule.now lemmas.now g) }
+{
+    let before = range_rows(alloc, rule)?;
+    let formula = grounds(
+        alloc,
+        Items::new(alloc),
+        rule.cons.as_slice(),
+        rule.body.as_slice(),
+        lemmas,
+    )?;
+    Ok(Grounds {
+        head: App {
+            pred: rule.head.pred,
+            args: rule.head.args.copy(alloc)?,
+        },
+        before,
+        after: rows(alloc, &formula)?,
+        branch: branch(alloc, &formula)?,
+        plain: is_plain(&formula),
+    })
+}
+
+fn range_rows(alloc: Global, rule: &Rule) -> Result<List<Row>, NoMemory>
+    requires { list_all is_sort rule.now.vars ≡ true }
+    ensures { IfOk result (λ made. lins made ≡ rows_of (And (ranges 0 rule.now.vars))) }
+{
+    let mut parts = Items::new(alloc);
+    add_ranges(alloc, rule.vars.as_slice(), &mut parts)?;
+    rows(alloc, &Formula::And(parts))
+}
+
+/// The rows of a goal at a head.
+pub fn goal_rows(alloc: Global, head: &App, goal: &Lemma) -> Result<List<Row>, NoMemory>
+    ensures { IfOk result (λ made. lins made ≡ rows_of (goal_part head.now goal.now)) }
+{
+    let mut parts = Items::new(alloc);
+    add_goal(alloc, head, goal.lits.as_slice(), &mut parts)?;
+    rows(alloc, &Formula::And(parts))
+}
