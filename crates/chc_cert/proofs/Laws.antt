@@ -5,11 +5,10 @@ use lib.Signed.{lt_z}
 use Rattle.std.specs.List.{list_all}
 use Rattle.std.specs.Ordering.{int_eq}
 use Rattle.std.proofs.lemmas.Int.{ints}
-use Rattle.std.proofs.lemmas.Bool.{cases_lt}
+use Rattle.std.proofs.lemmas.Bool.{cases_lt, and_parts}
 use Rattle.chc_form.specs.declared.linear.Lin.{Lin}
 use Rattle.chc_form.specs.Linear.{AllAscend}
 use Rattle.chc_form.specs.Multipliers.{coef, weighted, NoneNegative, Refutes}
-use Rattle.chc_form.proofs.Passing.{passes as both}
 use Rattle.chc_simplex.specs.declared.data.Step.TheVariants as step
 use Rattle.chc_simplex.specs.declared.data.Lp.{Lp}
 use Rattle.chc_simplex.specs.declared.data.Lp.TheVariants as lp
@@ -32,12 +31,12 @@ not-negative m h = grind (arith, ints)
 
 signs-of : (ms : List ℤ) → none_negative ms ≡ true → NoneNegative ms
 signs-of [] h = tt
-signs-of (m ∷ ms) h = let a = both (not (lt_z m (pos 0))) (none_negative ms) h in (not-negative m a.0, signs-of ms a.1)
+signs-of (m ∷ ms) h = let a = and_parts (not (lt_z m (pos 0))) (none_negative ms) h in (not-negative m a.0, signs-of ms a.1)
 
 zero-at : (sums : List ℤ) (v : ℕ) → list_all (λ s. int_eq s (pos 0)) sums ≡ true → number_at sums v ≡ pos 0
 zero-at [] v h = refl
-zero-at (s ∷ sums) zero h = int_eq-true s (both (int_eq s (pos 0)) (list_all (λ s. int_eq s (pos 0)) sums) h).0
-zero-at (s ∷ sums) (suc v) h = zero-at sums v (both (int_eq s (pos 0)) (list_all (λ s. int_eq s (pos 0)) sums) h).1
+zero-at (s ∷ sums) zero h = int_eq-true s (and_parts (int_eq s (pos 0)) (list_all (λ s. int_eq s (pos 0)) sums) h).0
+zero-at (s ∷ sums) (suc v) h = zero-at sums v (and_parts (int_eq s (pos 0)) (list_all (λ s. int_eq s (pos 0)) sums) h).1
 
 gone-of : (ms : List ℤ) (ls : List Lin) (o : Option (List ℤ)) → variable_sums ms ls (zeros (width ls)) ≡ o → are_gone o ≡ true → (v : ℕ) → weighted (λ l. coef l.terms v) ms ls ≡ pos 0
 gone-of ms ls None e h v = absurd (cc (h))
@@ -59,9 +58,9 @@ above-of ms ls (Some c) e h = omega (arith, ints, constant-exact (pos 0) ms ls c
 pub passes-refutes : (ms : List ℤ) (ls : List Lin) → passes ms ls ≡ true → Refutes ms ls
 unfolding passes
 passes-refutes ms ls h =
-    let a = both (length ms == length ls) _ h in
-    let b = both (none_negative ms) _ a.1 in
-    let c = both (is_above (constant_sum (pos 0) ms ls)) (are_gone (variable_sums ms ls (zeros (width ls)))) b.1 in record {
+    let a = and_parts (length ms == length ls) _ h in
+    let b = and_parts (none_negative ms) _ a.1 in
+    let c = and_parts (is_above (constant_sum (pos 0) ms ls)) (are_gone (variable_sums ms ls (zeros (width ls)))) b.1 in record {
       count = same-true (length ms) (length ls) a.0;
       signs = signs-of ms b.0;
       gone = gone-of ms ls (variable_sums ms ls (zeros (width ls))) refl c.1;

@@ -1,14 +1,8 @@
--- Zeros: one more at the end, how many there are, and what stands at a place.
+-- Zeros: how many there are, and what stands at a place.
 use Rattle.std.proofs.Common.{◌≡◌, ap, refl, ℕ, zero, suc, ◌+◌, List, [], ◌∷◌, ◌++◌, length, pos, arith}
 use lib.IntN.{ℤ}
 use Rattle.chc_simplex.specs.Rounds.{number_at}
 use Rattle.chc_simplex.specs.Endings.{zeros}
-
-pub zeros-more : (n : ℕ) → zeros n ++ pos 0 ∷ [] ≡ zeros (n + 1)
-zeros-more zero = refl
-zeros-more (suc n) = let e : suc n + 1 ≡ suc (n + 1) = omega arith in rw e (ap (λ (xs : List ℤ). pos 0 ∷ xs) (zeros-more n))
-
-pub ruleset repeats = (zeros-more)
 
 pub length-zeros : (n : ℕ) → length (zeros n) ≡ n
 length-zeros zero = refl

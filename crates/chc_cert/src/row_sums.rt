@@ -36,7 +36,7 @@ pub fn width(rows: &[Row]) -> usize
     width
 }
 
-#[tactic(auto, using(crate::proofs::Zeros::repeats))]
+#[tactic(auto, using(chc_simplex::proofs::Steps::repeats))]
 pub fn zeros(alloc: Global, count: usize) -> Result<List<i128>, NoMemory>
     ensures { IfOk result (λ list. list ≡ zeros count) }
 {

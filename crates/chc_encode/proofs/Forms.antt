@@ -35,12 +35,6 @@ value-small vars i n h l v = let p : IsSmall (greatest (ty.Uint (size_at vars i)
 
 pub ruleset typed = (ints, size-within, value-small)
 
--- one element more
-pub range-more : (n : ℕ) → range_with_len 0 (n + 1) ≡ range_with_len 0 n ++ n ∷ []
-range-more n = sym (map-id (range_with_len 0 (n + 1))) ∙ map-range_with_len_more (λ i. i) 0 n n (omega arith) ∙ ap (λ (l : List ℕ). l ++ n ∷ []) (map-id (range_with_len 0 n))
-
-pub ruleset ranges = (range-more)
-
 pub greatest-number : (s : ℕ) (z : ℤ) → IsSize s → z ≡ pos (2 ^ (8 * s) - 1) → IsSmall z
 greatest-number s z h e = subst IsSmall (sym e) (greatest-small s h)
 

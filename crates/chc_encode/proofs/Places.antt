@@ -11,6 +11,7 @@ use Rattle.chc_form.specs.declared.Sort.{Sort}
 use Rattle.chc_form.specs.declared.Sort.TheVariants as sort
 use Rattle.chc_form.specs.Valuations.{Valuation, HasSort, HasSorts}
 use Rattle.chc_form.specs.Constraints.{ConsAt}
+use Rattle.chc_form.proofs.Entries.{contains-first, contains-later}
 use Rattle.sol_first.specs.declared.Variable.{Variable}
 use Rattle.sol_first.specs.Typed.{size_at}
 use Rattle.chc_encode.specs.PathRows.{sorts_of, now_at, entry}
@@ -73,16 +74,10 @@ hold-cons sorts v (r ∷ rs) h = (h.0, hold-cons sorts v rs h.1)
 
 -- ---- members
 
-pub contains-head : {A : Type 0} → (x : A) (xs : List A) → Contains (x ∷ xs) x
-contains-head x xs = (0, omega arith, refl)
-
-pub contains-tail : {A : Type 0} → (x y : A) (xs : List A) → Contains xs y → Contains (x ∷ xs) y
-contains-tail x y xs h = (suc h.0, omega (arith, h.1), h.2)
-
 contains-map-at : {A B : Type 0} → (f : A → B) (xs : List A) (x : A) (k : ℕ) → k < length xs → slice_index_or xs k x ≡ x → Contains (map f xs) (f x)
 contains-map-at f [] x k l e = absurd (omega arith)
 contains-map-at f (y ∷ ys) x zero l e = (0, omega arith, ap f e)
-contains-map-at f (y ∷ ys) x (suc k) l e = contains-tail (f y) (f x) (map f ys) (contains-map-at f ys x k (omega arith) e)
+contains-map-at f (y ∷ ys) x (suc k) l e = contains-later (f y) (f x) (map f ys) (contains-map-at f ys x k (omega arith) e)
 
 pub contains-map : {A B : Type 0} → (f : A → B) (xs : List A) (x : A) → Contains xs x → Contains (map f xs) (f x)
 contains-map f xs x h = contains-map-at f xs x h.0 h.1 h.2

@@ -8,6 +8,7 @@ use Rattle.std.proofs.lemmas.Option.{slice_get-get_or, slice_get_within}
 use Rattle.std.proofs.lemmas.List.Elements.{All-head, All-tail, Contains-push}
 use Rattle.std.proofs.lemmas.List.Folds.{list_all-append}
 use Rattle.std.proofs.lemmas.List.FromFn.{length-range_with_len, get_or-range_with_len}
+use Rattle.std.proofs.lemmas.Bool.{and_from}
 use Rattle.chc_form.specs.declared.Row.{Row}
 use Rattle.chc_form.specs.declared.Sort.{Sort}
 use Rattle.chc_form.specs.declared.App.{App}
@@ -197,14 +198,10 @@ takes-none vars [] first f l = absurd (omega arith)
 takes-none vars (g ∷ fs) first zero l = refl
 takes-none vars (g ∷ fs) first (suc f) l = takes-none vars fs (first + length (sites_of_steps g.steps)) f (omega arith)
 
-and-true : (a b : Bool) → a ≡ true → b ≡ true → (a && b) ≡ true
-and-true true b e f = f
-and-true false b e f = absurd (cc)
-
 fits-at : (c : Contract) (f : ℕ) → f < length c.functions → call_fits (program_of c) (call_of f) ≡ true
 fits-at c f l =
     let t : takes_args (door (program_of c) f) [] ≡ true = ap (λ (o : Option Fun). takes_args o []) (door-at c f l) ∙ takes-none c.variables c.functions 0 f l in
-    ap (λ (g : Bool). g) (fold-roll-Call Bool Bool (λ d. takes_args (door (program_of c) d.fun) d.args && is_sender d.sender && each d.replies) (λ r. each r.calls) (layer f)) ∙ and-true (takes_args (door (program_of c) f) [] && is_sender (pos 1)) true (and-true (takes_args (door (program_of c) f) []) true t refl) refl
+    ap (λ (g : Bool). g) (fold-roll-Call Bool Bool (λ d. takes_args (door (program_of c) d.fun) d.args && is_sender d.sender && each d.replies) (λ r. each r.calls) (layer f)) ∙ and_from (takes_args (door (program_of c) f) [] && is_sender (pos 1)) true (and_from (takes_args (door (program_of c) f) []) true t refl) refl
 
 go_on-append : (p : Program) (ks js : List Call) (r : Bool × World) → ((v : World) → call_each p (ks ++ js) v ≡ go_on (call_each p ks v) (call_each p js)) → go_on r (call_each p (ks ++ js)) ≡ go_on (go_on r (call_each p ks)) (call_each p js)
 go_on-append p ks js (true, v) h = refl
@@ -244,7 +241,7 @@ led-stands : (c : Contract) (v : Valuation) (m : ℕ) (r : Bool × World) → Le
 led-stands c v m r l = record { count = length-range_with_len 0 (length c.variables); values = l.values; typed = l.typed }
 
 list_all-push : (p : Program) (ks : List Call) (k : Call) → list_all (call_fits p) ks ≡ true → call_fits p k ≡ true → list_all (call_fits p) (ks ++ k ∷ []) ≡ true
-list_all-push p ks k h e = list_all-append (call_fits p) ks (k ∷ []) ∙ and-true (list_all (call_fits p) ks) (list_all (call_fits p) (k ∷ [])) h (and-true (call_fits p k) true e refl)
+list_all-push p ks k h e = list_all-append (call_fits p) ks (k ∷ []) ∙ and_from (list_all (call_fits p) ks) (list_all (call_fits p) (k ∷ [])) h (and_from (call_fits p k) true e refl)
 
 -- ---- zeros
 

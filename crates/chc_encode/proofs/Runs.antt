@@ -12,6 +12,7 @@ use Rattle.chc_form.specs.declared.Query.{Query}
 use Rattle.chc_form.specs.Valuations.{Valuation, at_atom}
 use Rattle.chc_form.specs.Constraints.{ConsAt}
 use Rattle.chc_form.specs.Derivations.{Agree, Derived, AllDerived, by_rule, none, more, Derivable}
+use Rattle.chc_form.proofs.Entries.{contains-first, contains-later}
 use Rattle.sol_core.specs.declared.State.{State}
 use Rattle.sol_core.specs.declared.Script.{Script}
 use Rattle.sol_core.specs.declared.Call.{Call, out-Call}
@@ -29,7 +30,7 @@ use Rattle.sol_meaning.specs.Run.{fun_at, door, settled, call_once, go_on, call_
 use Rattle.chc_encode.specs.PathRows.{sorts_of, entry, after_all}
 use Rattle.chc_encode.specs.Systems.{at_entry, zeros_from, zero_rule, rule_of, queries_of_steps, queries_of, system_of}
 use Rattle.chc_encode.proofs.Valuations.{plus-value, minus-value}
-use Rattle.chc_encode.proofs.Places.{point, entry-sorts, entry-now, cons-hold, contains-head, contains-tail, contains-map}
+use Rattle.chc_encode.proofs.Places.{point, entry-sorts, entry-now, cons-hold, contains-map}
 use Rattle.chc_encode.proofs.Queries.{steps-count}
 use Rattle.chc_encode.proofs.Steps.{Fitting}
 use Rattle.chc_encode.proofs.Bodies.{entry-agrees, HasPoint, Hit, BodyRan, ran-right, ran-left, EndsAt, body-done}
@@ -68,14 +69,14 @@ called-done vars (g ∷ fs) first zero args w t a =
     let b : BodyRan vars w.state.scalars (EndsAt vars w.state.scalars (after_all vars g.steps (entry vars))) (queries_of_steps vars first g.steps (entry vars)) first w.hits (exec_all (stmts_of vars first g.steps) (record w { locals = []; turns = w.turns - 1 })) =
     body-done vars w.state.scalars g.steps first (entry vars) (number_at w.state.scalars) (record w { locals = []; turns = w.turns - 1 }) (All-head (λ f. All (StepTyped vars) f.steps) g fs t) (entry-agrees vars w.state.scalars a) in
     let e : BodyRan vars w.state.scalars (FunctionEnds vars (g ∷ fs) w.state.scalars) (queries_of_steps vars first g.steps (entry vars)) first w.hits (exec_all (stmts_of vars first g.steps) (record w { locals = []; turns = w.turns - 1 })) =
-    ran-ends vars w.state.scalars (EndsAt vars w.state.scalars (after_all vars g.steps (entry vars))) (FunctionEnds vars (g ∷ fs) w.state.scalars) (queries_of_steps vars first g.steps (entry vars)) first w.hits (exec_all (stmts_of vars first g.steps) (record w { locals = []; turns = w.turns - 1 })) (λ ns h. (g, contains-head g fs, h)) b in
+    ran-ends vars w.state.scalars (EndsAt vars w.state.scalars (after_all vars g.steps (entry vars))) (FunctionEnds vars (g ∷ fs) w.state.scalars) (queries_of_steps vars first g.steps (entry vars)) first w.hits (exec_all (stmts_of vars first g.steps) (record w { locals = []; turns = w.turns - 1 })) (λ ns h. (g, contains-first g fs, h)) b in
     ran-left vars start (FunctionEnds vars (g ∷ fs) start) (queries_of_steps vars first g.steps (entry vars)) (queries_of vars (first + length (sites_of_steps g.steps)) fs) first w.hits (called (Some (fun_of vars first g)) args w)
     (ran-either vars start (FunctionEnds vars (g ∷ fs) start) (queries_of_steps vars first g.steps (entry vars)) first w.hits (w.turns == 0) (done.Cut, w) (finished (exec_all (stmts_of vars first g.steps) v)) refl (ran-finished vars start (FunctionEnds vars (g ∷ fs) start) (queries_of_steps vars first g.steps (entry vars)) first w.hits (exec_all (stmts_of vars first g.steps) v) e))
 called-done vars (g ∷ fs) first (suc f) args w t a =
     let start : List ℤ = w.state.scalars in
     let next : ℕ = first + length (sites_of_steps g.steps) in
     ran-right vars start (FunctionEnds vars (g ∷ fs) start) (queries_of_steps vars first g.steps (entry vars)) (queries_of vars next fs) first next w.hits (called (slice_get (funs_of vars next fs) f) args w) (omega (arith, steps-count vars first g.steps (entry vars)))
-    (ran-ends vars start (FunctionEnds vars fs start) (FunctionEnds vars (g ∷ fs) start) (queries_of vars next fs) next w.hits (called (slice_get (funs_of vars next fs) f) args w) (λ ns h. (h.0, contains-tail g h.0 fs h.1, h.2)) (called-done vars fs next f args w (All-tail (λ f. All (StepTyped vars) f.steps) g fs t) a))
+    (ran-ends vars start (FunctionEnds vars fs start) (FunctionEnds vars (g ∷ fs) start) (queries_of vars next fs) next w.hits (called (slice_get (funs_of vars next fs) f) args w) (λ ns h. (h.0, contains-later g h.0 fs h.1, h.2)) (called-done vars fs next f args w (All-tail (λ f. All (StepTyped vars) f.steps) g fs t) a))
 
 -- what a call from a state does
 abbrev CallRan : Contract → List ℤ → List ℕ → End × World → Type 0
@@ -99,7 +100,7 @@ known-body c start x known first =
 known-rule : (c : Contract) (g : Function) (start ns : List ℤ) → Contains c.functions g → Known c start → EndsAt c.variables start (after_all c.variables g.steps (entry c.variables)) ns → Known c ns
 known-rule c g start ns i known (y, a) w same =
     by_rule {r = rule_of c.variables g} {v = point y} {w = w}
-    (contains-tail (zero_rule c.variables) (rule_of c.variables g) (map (rule_of c.variables) c.functions) (contains-map (rule_of c.variables) c.functions g i))
+    (contains-later (zero_rule c.variables) (rule_of c.variables g) (map (rule_of c.variables) c.functions) (contains-map (rule_of c.variables) c.functions g i))
     a.sorts
     (cons-hold (after_all c.variables g.steps (entry c.variables)).sorts (point y) (after_all c.variables g.steps (entry c.variables)).rows a.rows)
     (known-body c start y known a.first)
@@ -182,7 +183,7 @@ zeros-known : (c : Contract) → Known c (zeros c.variables)
 zeros-known c w same =
     let n : length (range_with_len 0 (length c.variables)) ≡ length c.variables = length-range_with_len 0 (length c.variables) in
     by_rule {r = zero_rule c.variables} {v = point (number_at (zeros c.variables))} {w = w}
-    (contains-head (zero_rule c.variables) (map (rule_of c.variables) c.functions))
+    (contains-first (zero_rule c.variables) (map (rule_of c.variables) c.functions))
     (entry-sorts c.variables (number_at (zeros c.variables)) (zeros-fit c.variables).ranges)
     (zeros-cons (sorts_of c.variables) (number_at (zeros c.variables)) 0 c.variables (zero-at c.variables))
     none

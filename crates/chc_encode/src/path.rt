@@ -115,7 +115,7 @@ pub fn entry_current(alloc: Global, variables: &[Variable]) -> Result<List<u32>,
 }
 
 // The numbers below this one.
-#[tactic(auto, using(crate::proofs::Forms::ranges))]
+#[tactic(auto, using(sol_first::proofs::Places::ranges))]
 fn up_to(alloc: Global, count: u32) -> Result<List<u32>, NoMemory>
     ensures { IfOk result (λ list. list ≡ range_with_len 0 count) }
 {

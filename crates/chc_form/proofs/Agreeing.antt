@@ -2,6 +2,7 @@
 use Rattle.std.proofs.Common.{◌≡◌, ◌∙◌, refl, subst, ap, ℕ, ◌<◌, List, [], ◌∷◌, length, map, true, pos, ◌+ℤ◌, ◌*ℤ◌, ◌≤ℤ◌, arith, inl, inr}
 use Rattle.std.specs.Prelude.{Option, Some, None, slice_get, nat_lt}
 use Rattle.std.specs.List.{list_all}
+use Rattle.std.proofs.lemmas.Bool.{and_parts}
 use lib.IntN.{ℤ}
 use Rattle.chc_nums.specs.declared.Ty.{Ty}
 use Rattle.chc_form.specs.declared.system.Sort.{Sort}
@@ -16,7 +17,7 @@ use Rattle.chc_form.specs.Valuations.{Valuation}
 use Rattle.chc_form.specs.Derivations.{Agree}
 use Rattle.chc_form.specs.Lemmas.{key_value, term_value, terms_value, lit_value, OneHolds, LemmaAt}
 use Rattle.chc_form.specs.WellMade.{is_sized, is_number, is_of_type, is_key_term, are_key_terms, is_read, is_term, is_lit, is_lemma_of}
-use Rattle.chc_form.proofs.Passing.{passes, place-there}
+use Rattle.chc_form.proofs.Passing.{place-there}
 
 module _ (n : ℕ) (v w : Valuation) (same : Agree n v w) (places : List Sort) (size : length places ≡ n) (keys : List Ty) (ks : List ℤ) where
   key-same : (t : Ty) (k : KeyTerm) → is_key_term places keys t k ≡ true → key_value v ks k ≡ key_value w ks k
@@ -28,7 +29,7 @@ module _ (n : ℕ) (v w : Valuation) (same : Agree n v w) (places : List Sort) (
   keys-same [] (k ∷ more) h = absurd (cc)
   keys-same (t ∷ ts) [] h = absurd (cc)
   keys-same (t ∷ ts) (k ∷ more) h =
-      let both = passes (is_key_term places keys t k) (are_key_terms places keys ts more) h in
+      let both = and_parts (is_key_term places keys t k) (are_key_terms places keys ts more) h in
       let first : key_value v ks k ≡ key_value w ks k = key-same t k both.0 in
       let rest : map (key_value v ks) more ≡ map (key_value w ks) more = keys-same ts more both.1 in
       cc (first, rest)
@@ -49,13 +50,13 @@ module _ (n : ℕ) (v w : Valuation) (same : Agree n v w) (places : List Sort) (
   terms-same : (ts : List (LitTerm × ℤ)) → list_all (λ t. is_term places keys t.0) ts ≡ true → terms_value v ks ts ≡ terms_value w ks ts
   terms-same [] h = refl
   terms-same (t ∷ ts) h =
-      let both = passes (is_term places keys t.0) (list_all (λ t. is_term places keys t.0) ts) h in
+      let both = and_parts (is_term places keys t.0) (list_all (λ t. is_term places keys t.0) ts) h in
       ap (λ (z : ℤ). (t.1 *ℤ z) +ℤ terms_value v ks ts) (term-same t.0 both.0) ∙ ap (λ (z : ℤ). (t.1 *ℤ term_value w ks t.0) +ℤ z) (terms-same ts both.1)
 
   literal-same : (ls : List Lit) → list_all (is_lit places keys) ls ≡ true → OneHolds v ks ls → OneHolds w ks ls
   literal-same [] h one = one
   literal-same (l ∷ ls) h one =
-      let both = passes (is_lit places keys l) (list_all (is_lit places keys) ls) h in
+      let both = and_parts (is_lit places keys l) (list_all (is_lit places keys) ls) h in
       let equal : lit_value v ks l ≡ lit_value w ks l = ap (λ (z : ℤ). z +ℤ l.konst) (terms-same l.terms both.0) in
       elim one [
         | inl this ↦ inl (subst (λ (z : ℤ). z ≤ℤ pos 0) equal this)
@@ -65,6 +66,6 @@ module _ (n : ℕ) (v w : Valuation) (same : Agree n v w) (places : List Sort) (
 -- the lemma is true at both
 pub lemma-same : (n : ℕ) (v w : Valuation) → Agree n v w → (places : List Sort) → length places ≡ n → (l : Lemma) → is_lemma_of (Some places) l ≡ true → LemmaAt v l → LemmaAt w l
 lemma-same n v w same places size l h at ks fit =
-    let few = passes (nat_lt (length l.keys) 3) _ h in
-    let lits : list_all (is_lit places l.keys) l.lits ≡ true = (passes (list_all is_sized l.keys) (list_all (is_lit places l.keys) l.lits) few.1).1 in
+    let few = and_parts (nat_lt (length l.keys) 3) _ h in
+    let lits : list_all (is_lit places l.keys) l.lits ≡ true = (and_parts (list_all is_sized l.keys) (list_all (is_lit places l.keys) l.lits) few.1).1 in
     literal-same n v w same places size l.keys ks l.lits lits (at ks fit)

@@ -2,6 +2,7 @@
 use Rattle.std.proofs.Common.{◌≡◌, ◌∙◌, subst, ap, ℕ, List, [], ◌∷◌, length, true}
 use Rattle.std.specs.Prelude.{Option, Some, slice_get}
 use Rattle.std.specs.List.{list_all}
+use Rattle.std.proofs.lemmas.Bool.{and_parts}
 use Rattle.chc_form.specs.declared.system.Sort.{Sort}
 use Rattle.chc_form.specs.declared.system.App.{App}
 use Rattle.chc_form.specs.declared.system.System.{System}
@@ -11,7 +12,7 @@ use Rattle.chc_form.specs.Lemmas.{LemmaAt, AtomHolds, AtomsHold}
 use Rattle.chc_form.specs.Solving.{BodyHolds, Solves, Refutes}
 use Rattle.chc_form.specs.Derivations.{Agree, Derived, AllDerived, by_rule, none, more, Derivable}
 use Rattle.chc_form.specs.WellMade.{is_lemma_of, well_made, of_system}
-use Rattle.chc_form.proofs.Passing.{passes, rule-made, rule-head, atom-places}
+use Rattle.chc_form.proofs.Passing.{rule-made, rule-head, atom-places}
 use Rattle.chc_form.proofs.Agreeing.{lemma-same}
 
 -- the lemmas on a predicate are true at values
@@ -30,7 +31,7 @@ lemma-on s l p places h e same = subst (λ (o : Option (List Sort)). is_lemma_of
 head-true : (s : System) (ls : List Lemma) (v w : Valuation) (a : App) (places : List Sort) → list_all (of_system s) ls ≡ true → slice_get s.preds a.pred ≡ Some places → length places ≡ length a.args → Agree (length a.args) (at_atom v a) w → AtomHolds ls v a → TrueAt ls a.pred w
 head-true s [] v w a places all e size same h = tt
 head-true s (l ∷ ls) v w a places all e size same h =
-    let both = passes (of_system s l) (list_all (of_system s) ls) all in (
+    let both = and_parts (of_system s l) (list_all (of_system s) ls) all in (
       λ on. lemma-same (length a.args) (at_atom v a) w same places size l (lemma-on s l a.pred places both.0 e on) (h.0 on),
       head-true s ls v w a places both.1 e size same h.1,
     )

@@ -1,5 +1,6 @@
 pub mod Ranges
 pub mod Farkas
+pub mod Entries
 pub mod Passing
 pub mod Orders
 pub mod Joining

@@ -3,9 +3,9 @@ use Rattle.std.proofs.Common.{◌≡◌, ◌∙◌, sym, ap, subst, refl, ℕ, z
 use Rattle.std.specs.List.{Contains, list_any}
 use Rattle.std.proofs.lemmas.Bool.Decides.{nat_tests}
 use Rattle.std.proofs.lemmas.List.Folds.{list_any_at}
+use Rattle.std.proofs.lemmas.Bool.{and_from}
 use Rattle.chc_form.specs.declared.lemma.Lemma.{Lemma}
-use Rattle.chc_reduce.proofs.Satisfying.{both-true}
-use Rattle.chc_reduce.proofs.Sorts.{contains-first, contains-later}
+use Rattle.chc_form.proofs.Entries.{contains-first, contains-later}
 use Rattle.chc_houdini.specs.declared.greatest.RoundStop.{RoundStop}
 use Rattle.chc_houdini.specs.Drops.{is_named, left_from, kept_from}
 
@@ -69,7 +69,7 @@ pub named-there : (ds : List RoundStop) (i k : ℕ) (d : RoundStop) → Contains
 named-there ds i k d h below same =
     let test : RoundStop → Bool = λ e. nat_lt e.round i && (e.lemma == k) in
     let P : RoundStop → Type 0 = λ e. test e ≡ true in
-    list_any_at test ds h.0 d h.1 (subst P (sym h.2) (both-true (nat_lt d.round i) (d.lemma == k) (less-test d.round i below) (same-test d.lemma k same)))
+    list_any_at test ds h.0 d h.1 (subst P (sym h.2) (and_from (nat_lt d.round i) (d.lemma == k) (less-test d.round i below) (same-test d.lemma k same)))
 
 either-true : (a b : Bool) → b ≡ true → (a || b) ≡ true
 either-true true b h = refl

@@ -10,10 +10,10 @@ use Rattle.chc_form.specs.declared.system.Part.TheVariants as part
 use Rattle.chc_form.specs.declared.lemma.Lemma.{Lemma}
 use Rattle.chc_form.specs.Formulas.{FormulaRefuted}
 use Rattle.chc_form.specs.WellMade.{well_made}
+use Rattle.chc_form.proofs.Entries.{contains-first, contains-later, got-contained}
 use Rattle.chc_reduce.specs.Reduced.{reduced}
 use Rattle.chc_reduce.specs.Obligations.{obligations}
 use Rattle.chc_reduce.proofs.Ordered.{reduced-ordered}
-use Rattle.chc_reduce.proofs.Sorts.{contains-first, contains-later, got-contained}
 use Rattle.chc_ask.specs.Open.{StaysOpen}
 use Rattle.chc_ask.proofs.Answers.{asked-refuted, asked-open}
 use Rattle.chc_houdini.specs.declared.greatest.RoundStop.{RoundStop}

@@ -10,9 +10,9 @@ use Rattle.chc_form.specs.declared.system.Rule.{Rule}
 use Rattle.chc_form.specs.declared.system.System.{System}
 use Rattle.chc_form.specs.declared.system.Part.TheVariants as part
 use Rattle.chc_form.specs.declared.lemma.Lemma.{Lemma}
+use Rattle.chc_form.proofs.Entries.{contains-first}
 use Rattle.chc_reduce.specs.Reduced.{reduced}
 use Rattle.chc_reduce.specs.Obligations.{Obligation, at_rules, for_lemmas}
-use Rattle.chc_reduce.proofs.Sorts.{contains-first}
 use Rattle.chc_ask.specs.declared.open.Open.{Open}
 use Rattle.chc_ask.specs.declared.open.Asked.{Asked}
 use Rattle.chc_ask.specs.declared.open.Asked.TheVariants as asked

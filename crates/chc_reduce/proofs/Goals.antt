@@ -16,13 +16,14 @@ use Rattle.chc_form.specs.declared.lemma.Lemma.{Lemma}
 use Rattle.chc_form.specs.Linear.{AllAscend, lins}
 use Rattle.chc_form.specs.WellMade.{well_made}
 use Rattle.chc_form.proofs.Orders.{rule-ascends}
+use Rattle.chc_form.proofs.Entries.{got-contained}
 use Rattle.chc_reduce.specs.declared.grounds.Grounds.{Grounds}
 use Rattle.chc_reduce.specs.Literals.{with_value, literal_sum, opposite}
 use Rattle.chc_reduce.specs.Reduced.{lower, upper, ranges, at_most, refuted, constraint, instances, reduced_rule, reduced_rule_at}
 use Rattle.chc_reduce.specs.Rows.{joined, rows_of, is_plain, branch_of}
 use Rattle.chc_reduce.specs.Grounds.{goal_part, ranges_part, grounds_part, AreMadeOf, AreGrounds, InOrder}
 use Rattle.chc_reduce.proofs.Shapes.{rows_of-And, is_plain-Le, is_plain-And, branch_of-Le, branch_of-And}
-use Rattle.chc_reduce.proofs.Sorts.{got-contained, got_rule}
+use Rattle.chc_reduce.proofs.Sorts.{got_rule}
 use Rattle.chc_reduce.proofs.Ordered.{and-ordered, ordered-append, ranges-ordered, refuted-ordered, constraints-ordered, instances-ordered}
 
 joined-append : {B : Type 0} (f : Formula → List B) (fs gs : List Formula) → joined (map f (fs ++ gs)) ≡ joined (map f fs) ++ joined (map f gs)

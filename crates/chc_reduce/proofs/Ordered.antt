@@ -22,12 +22,12 @@ use Rattle.chc_form.specs.Linear.{Ascend, AllAscend}
 use Rattle.chc_form.specs.Sums.{sums_of}
 use Rattle.chc_form.specs.WellMade.{well_made}
 use Rattle.chc_form.proofs.Orders.{rule-ascends, query-ascends}
+use Rattle.chc_form.proofs.Entries.{got-contained, contains-first, contains-later}
 use Rattle.chc_reduce.specs.Literals.{with_value, literal_sum, opposite}
 use Rattle.chc_reduce.specs.Reduced.{lower, upper, ranges, at_most, refuted, granted, goal_parts, constraint, instance_of, instances_at, instances, reduced_rule, reduced_query, reduced_rule_at, reduced_query_at, reduced}
 use Rattle.chc_reduce.specs.Rows.{joined, only, rows_of}
 use Rattle.chc_reduce.proofs.Shapes.{rows_of-Le, rows_of-And, rows_of-Or}
 use Rattle.chc_reduce.proofs.Sums.{literal-ascends}
-use Rattle.chc_reduce.proofs.Sorts.{got-contained, contains-first, contains-later}
 
 -- the rows of each formula are in order
 abbrev pub AllOrdered : List Formula → Type 0

@@ -2,13 +2,13 @@
 use Rattle.std.proofs.Common.{◌≡◌, ◌∙◌, sym, subst, refl, ℕ, List, [], ◌∷◌, ◌++◌, Bool, true, false, not, ◌&&◌, ◌||◌, map, pos, ◌+ℤ◌, ◌*ℤ◌, ◌≤ℤ◌, arith}
 use Rattle.std.specs.List.{list_all, list_any}
 use Rattle.std.proofs.lemmas.Int.{ints}
+use Rattle.std.proofs.lemmas.Bool.{and_parts, and_from}
 use lib.IntN.{ℤ}
 use lib.Signed.{lt_z}
 use Rattle.chc_form.specs.declared.linear.Lin.{Lin}
 use Rattle.chc_form.specs.declared.formula.Formula.{Formula}
 use Rattle.chc_form.specs.Formulas.{FracTrue, FormulaRefuted, frac_true}
 use Rattle.chc_form.specs.Linear.{FracSatisfies, FracRefuted, sum_of}
-use Rattle.chc_form.proofs.Passing.{passes}
 use Rattle.chc_form.proofs.Truths.{frac_true-Le, frac_true-And, frac_true-Or}
 use Rattle.chc_reduce.specs.Rows.{joined, only, rows_of, is_plain}
 use Rattle.chc_reduce.proofs.Shapes.{rows_of-Le, rows_of-And, rows_of-Or, is_plain-And, is_plain-Or}
@@ -32,10 +32,6 @@ not_above z h = grind (arith, ints)
 pub above_not : (z : ℤ) → z ≤ℤ pos 0 → not (lt_z (pos 0) z) ≡ true
 above_not z h = grind (arith, ints)
 
-pub both-true : (a b : Bool) → a ≡ true → b ≡ true → (a && b) ≡ true
-both-true true b h k = k
-both-true false b h k = absurd (cc)
-
 one-true : (a : Bool) → (a || false) ≡ true → a ≡ true
 one-true true h = refl
 one-true false h = absurd (cc)
@@ -52,7 +48,7 @@ Says x d f = FracTrue x d f → FracSatisfies (rows_of f) x d
 says-all : (x : ℕ → ℤ) (d : ℤ) (es : List ((f : Formula) × Says x d f)) → list_all (λ b. b) (map (frac_true x d) (map (λ e. e.0) es)) ≡ true → FracSatisfies (joined (map rows_of (map (λ e. e.0) es))) x d
 says-all x d [] h = tt
 says-all x d (e ∷ es) h =
-    let p = passes (frac_true x d e.0) (list_all (λ b. b) (map (frac_true x d) (map (λ e. e.0) es))) h in
+    let p = and_parts (frac_true x d e.0) (list_all (λ b. b) (map (frac_true x d) (map (λ e. e.0) es))) h in
     satisfies-append (rows_of e.0) (joined (map rows_of (map (λ e. e.0) es))) x d (e.1 p.0) (says-all x d es p.1)
 
 says-one : (x : ℕ → ℤ) (d : ℤ) (es : List ((f : Formula) × Says x d f)) → list_any (λ b. b) (map (frac_true x d) (map (λ e. e.0) es)) ≡ true → FracSatisfies (only (map rows_of (map (λ e. e.0) es)) [] (λ r. r)) x d
@@ -74,9 +70,9 @@ Follows x d f = is_plain f ≡ true → FracSatisfies (rows_of f) x d → FracTr
 follows-all : (x : ℕ → ℤ) (d : ℤ) (es : List ((f : Formula) × Follows x d f)) → list_all (λ b. b) (map is_plain (map (λ e. e.0) es)) ≡ true → FracSatisfies (joined (map rows_of (map (λ e. e.0) es))) x d → list_all (λ b. b) (map (frac_true x d) (map (λ e. e.0) es)) ≡ true
 follows-all x d [] p h = refl
 follows-all x d (e ∷ es) p h =
-    let q = passes (is_plain e.0) (list_all (λ b. b) (map is_plain (map (λ e. e.0) es))) p in
+    let q = and_parts (is_plain e.0) (list_all (λ b. b) (map is_plain (map (λ e. e.0) es))) p in
     let ls = joined (map rows_of (map (λ e. e.0) es)) in
-    both-true (frac_true x d e.0) (list_all (λ b. b) (map (frac_true x d) (map (λ e. e.0) es))) (e.1 q.0 (satisfies-first (rows_of e.0) ls x d h)) (follows-all x d es q.1 (satisfies-second (rows_of e.0) ls x d h))
+    and_from (frac_true x d e.0) (list_all (λ b. b) (map (frac_true x d) (map (λ e. e.0) es))) (e.1 q.0 (satisfies-first (rows_of e.0) ls x d h)) (follows-all x d es q.1 (satisfies-second (rows_of e.0) ls x d h))
 
 follows-one : (x : ℕ → ℤ) (d : ℤ) (es : List ((f : Formula) × Follows x d f)) → only (map is_plain (map (λ e. e.0) es)) false (λ b. b) ≡ true → FracSatisfies (only (map rows_of (map (λ e. e.0) es)) [] (λ r. r)) x d → list_any (λ b. b) (map (frac_true x d) (map (λ e. e.0) es)) ≡ true
 follows-one x d [] p h = absurd (cc)

@@ -1,8 +1,7 @@
 -- The sorts of variables in a well-made system, and turns of the loop over them.
 use Rattle.std.proofs.Common.{◌≡◌, sym, subst, refl, ℕ, ◌+◌, suc, List, [], ◌∷◌, ◌++◌, true, Some, slice_get, arith, append_assoc}
 use Rattle.std.specs.List.{list_all, Contains}
-use Rattle.std.proofs.lemmas.Option.{get_or_from_slice_get, slice_get_within}
-use Rattle.std.proofs.lemmas.List.Elements.{Contains-get_or}
+use Rattle.std.proofs.lemmas.Bool.{and_parts}
 use Rattle.chc_nums.specs.declared.Ty.{Ty}
 use Rattle.chc_nums.specs.declared.Ty.TheVariants as ty
 use Rattle.chc_nums.specs.Types.{IsType}
@@ -13,7 +12,8 @@ use Rattle.chc_form.specs.declared.system.Rule.{Rule}
 use Rattle.chc_form.specs.declared.system.Query.{Query}
 use Rattle.chc_form.specs.declared.system.System.{System}
 use Rattle.chc_form.specs.WellMade.{is_few, all_few, is_sized, is_sort, well_made}
-use Rattle.chc_form.proofs.Passing.{passes, rule-made, query-made}
+use Rattle.chc_form.proofs.Entries.{got-contained}
+use Rattle.chc_form.proofs.Passing.{first-sort, rest-sorts, rule-made, query-made}
 use Rattle.chc_reduce.specs.Reduced.{ranges}
 
 sized-type : (t : Ty) → is_sized t ≡ true → IsType t
@@ -33,26 +33,17 @@ ranges_turn made x (sort.Whole t) ss = let e : x + 1 ≡ suc x = omega arith in 
 ranges_turn made x sort.Free ss = let e : x + 1 ≡ suc x = omega arith in rw e (append_assoc made [] (ranges (suc x) ss))
 ranges_turn made x (sort.Map ks v) ss = let e : x + 1 ≡ suc x = omega arith in rw e (append_assoc made [] (ranges (suc x) ss))
 
-pub first-sort : (s : Sort) (ss : List Sort) → list_all is_sort (s ∷ ss) ≡ true → is_sort s ≡ true
-first-sort s ss h = (passes (is_sort s) (list_all is_sort ss) h).0
-
-pub rest-sorts : (s : Sort) (ss : List Sort) → list_all is_sort (s ∷ ss) ≡ true → list_all is_sort ss ≡ true
-rest-sorts s ss h = (passes (is_sort s) (list_all is_sort ss) h).1
-
 pub ruleset turns = (ranges_turn, first-sort, rest-sorts)
 
 rule-sorts : (s : System) (r : Rule) → well_made s ≡ true → Contains s.rules r → list_all is_sort r.vars ≡ true
 rule-sorts s r h i =
-    let a = passes (all_few is_sort r.vars) _ (rule-made s r h i) in
-    (passes (is_few r.vars) (list_all is_sort r.vars) a.0).1
+    let a = and_parts (all_few is_sort r.vars) _ (rule-made s r h i) in
+    (and_parts (is_few r.vars) (list_all is_sort r.vars) a.0).1
 
 query-sorts : (s : System) (q : Query) → well_made s ≡ true → Contains s.queries q → list_all is_sort q.vars ≡ true
 query-sorts s q h i =
-    let a = passes (all_few is_sort q.vars) _ (query-made s q h i) in
-    (passes (is_few q.vars) (list_all is_sort q.vars) a.0).1
-
-pub got-contained : {A : Type 0} → (xs : List A) (i : ℕ) (x : A) → slice_get xs i ≡ Some x → Contains xs x
-got-contained {A} xs i x e = subst (Contains xs) (get_or_from_slice_get xs i x x e) (Contains-get_or xs i x (slice_get_within xs i x e))
+    let a = and_parts (all_few is_sort q.vars) _ (query-made s q h i) in
+    (and_parts (is_few q.vars) (list_all is_sort q.vars) a.0).1
 
 pub got_rule : (s : System) (i : ℕ) (r : Rule) → Some r ≡ slice_get s.rules i → well_made s ≡ true → list_all is_sort r.vars ≡ true
 got_rule s i r e h = rule-sorts s r h (got-contained s.rules i r (sym e))
@@ -61,9 +52,3 @@ pub got_query : (s : System) (i : ℕ) (q : Query) → Some q ≡ slice_get s.qu
 got_query s i q e h = query-sorts s q h (got-contained s.queries i q (sym e))
 
 pub ruleset parts = (got_rule, got_query)
-
-pub contains-first : {A : Type 0} → (x : A) (xs : List A) → Contains (x ∷ xs) x
-contains-first x xs = (0, omega arith, refl)
-
-pub contains-later : {A : Type 0} → (x y : A) (xs : List A) → Contains xs y → Contains (x ∷ xs) y
-contains-later x y xs i = (suc i.0, omega (arith, i.1), i.2)

@@ -4,6 +4,7 @@ use Rattle.std.proofs.Common.{◌≡◌, ◌∙◌, sym, subst, refl, ℕ, zero,
 use Rattle.std.specs.List.{list_all, list_any}
 use Rattle.std.proofs.lemmas.Int.{ints}
 use Rattle.std.proofs.lemmas.Bool.Decides.{nat_tests}
+use Rattle.std.proofs.lemmas.Bool.{and_parts, and_from}
 use lib.IntN.{ℤ, negsuc}
 use Rattle.chc_nums.specs.declared.Ty.{Ty}
 use Rattle.chc_nums.specs.Types.{InRange}
@@ -26,11 +27,10 @@ use Rattle.chc_form.specs.Valuations.{Valuation, KeysFit, HasSort, HasSorts, at_
 use Rattle.chc_form.specs.Constraints.{ConAt, ConsAt}
 use Rattle.chc_form.specs.Lemmas.{lit_value, OneHolds, LemmaAt, AtomHolds, AtomsHold}
 use Rattle.chc_form.specs.Solving.{BodyHolds, QueryHolds}
-use Rattle.chc_form.proofs.Passing.{passes}
 use Rattle.chc_form.proofs.Truths.{frac_true-Le, frac_true-And, frac_true-Or}
 use Rattle.chc_reduce.specs.Literals.{with_value, literal_sum, opposite}
 use Rattle.chc_reduce.specs.Reduced.{lower, upper, range_of, ranges, at_most, refuted, granted, goal_parts, constraint, instance_of, instances_at, instances, reduced_rule, reduced_query, reduced_rule_at, reduced_query_at, reduced}
-use Rattle.chc_reduce.proofs.Satisfying.{above_not, both-true}
+use Rattle.chc_reduce.proofs.Satisfying.{above_not}
 use Rattle.chc_reduce.proofs.Sums.{literal-value, opposite-value}
 
 -- all formulas are true at these whole numbers
@@ -40,11 +40,11 @@ AllTrue x fs = list_all (λ b. b) (map (frac_true x (pos 1)) fs) ≡ true
 all-append : (x : ℕ → ℤ) (fs gs : List Formula) → AllTrue x fs → AllTrue x gs → AllTrue x (fs ++ gs)
 all-append x [] gs h k = k
 all-append x (f ∷ fs) gs h k =
-    let p = passes (frac_true x (pos 1) f) (list_all (λ b. b) (map (frac_true x (pos 1)) fs)) h in
-    both-true (frac_true x (pos 1) f) (list_all (λ b. b) (map (frac_true x (pos 1)) (fs ++ gs))) p.0 (all-append x fs gs p.1 k)
+    let p = and_parts (frac_true x (pos 1) f) (list_all (λ b. b) (map (frac_true x (pos 1)) fs)) h in
+    and_from (frac_true x (pos 1) f) (list_all (λ b. b) (map (frac_true x (pos 1)) (fs ++ gs))) p.0 (all-append x fs gs p.1 k)
 
 all-more : (x : ℕ → ℤ) (f : Formula) (fs : List Formula) → TrueAt x f → AllTrue x fs → AllTrue x (f ∷ fs)
-all-more x f fs h k = both-true (frac_true x (pos 1) f) (list_all (λ b. b) (map (frac_true x (pos 1)) fs)) h k
+all-more x f fs h k = and_from (frac_true x (pos 1) f) (list_all (λ b. b) (map (frac_true x (pos 1)) fs)) h k
 
 and-true : (x : ℕ → ℤ) (fs : List Formula) → AllTrue x fs → TrueAt x (And fs)
 and-true x fs h = frac_true-And x (pos 1) fs ∙ h

@@ -5,6 +5,7 @@ use Rattle.std.specs.List.{filter, list_all}
 use Rattle.std.specs.Ordering.{int_eq}
 use Rattle.std.proofs.lemmas.Int.{ints}
 use Rattle.std.proofs.lemmas.Bool.Decides.{nat_tests}
+use Rattle.std.proofs.lemmas.Bool.{and_parts}
 use Rattle.chc_nums.specs.declared.Ty.{Ty}
 use Rattle.chc_nums.specs.declared.Ty.TheVariants as ty
 use Rattle.chc_nums.specs.Types.{IsType}
@@ -13,7 +14,6 @@ use Rattle.chc_form.specs.declared.system.Sort.{Sort}
 use Rattle.chc_form.specs.declared.system.Sort.TheVariants as sort
 use Rattle.chc_form.specs.declared.system.System.{System}
 use Rattle.chc_form.specs.WellMade.{is_sort, all_few, is_few, well_made}
-use Rattle.chc_form.proofs.Passing.{passes}
 use Rattle.chc_templates.specs.Constants.{is_before, placed, placed_all, constants_in}
 use Rattle.chc_templates.specs.Firsts.{is_small, firsts}
 use Rattle.chc_templates.specs.Candidates.{splits, konst_for, on_place, on_places, on_preds, on_numbers, candidates_of}
@@ -117,14 +117,14 @@ large-on_place k p i (sort.Map keys value) h l = refl
 large-on_places : (k : ℤ) (p i : ℕ) (ss : List Sort) → list_all is_sort ss ≡ true → is_small k ≡ false → on_places k p i ss ≡ []
 large-on_places k p i [] h l = refl
 large-on_places k p i (s ∷ ss) h l =
-    let a = passes (is_sort s) (list_all is_sort ss) h in
+    let a = and_parts (is_sort s) (list_all is_sort ss) h in
     rw (large-on_place k p i s a.0 l, large-on_places k p (i + 1) ss a.1 l) refl
 
 large-on_preds : (k : ℤ) (p : ℕ) (preds : List (List Sort)) → list_all (all_few is_sort) preds ≡ true → is_small k ≡ false → on_preds k p preds ≡ []
 large-on_preds k p [] h l = refl
 large-on_preds k p (ss ∷ more) h l =
-    let a = passes (all_few is_sort ss) (list_all (all_few is_sort) more) h in
-    rw (large-on_places k p 0 ss (passes (is_few ss) (list_all is_sort ss) a.0).1 l, large-on_preds k (p + 1) more a.1 l) refl
+    let a = and_parts (all_few is_sort ss) (list_all (all_few is_sort) more) h in
+    rw (large-on_places k p 0 ss (and_parts (is_few ss) (list_all is_sort ss) a.0).1 l, large-on_preds k (p + 1) more a.1 l) refl
 
 large-on_numbers : (preds : List (List Sort)) (n : ℕ) (ks : List ℤ) → list_all (all_few is_sort) preds ≡ true → Large ks → on_numbers preds (take n ks) ≡ []
 large-on_numbers preds zero ks h l = refl

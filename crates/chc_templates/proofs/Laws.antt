@@ -5,32 +5,29 @@ use Rattle.std.specs.Prelude.{Option, Some, None, slice_get}
 use Rattle.std.specs.List.{list_all, All}
 use Rattle.std.proofs.lemmas.List.{length-take}
 use Rattle.std.proofs.lemmas.List.Elements.{All-take, All-append}
+use Rattle.std.proofs.lemmas.Bool.{and_parts, and_from}
 use Rattle.chc_form.specs.declared.system.Sort.{Sort}
 use Rattle.chc_form.specs.declared.system.Sort.TheVariants as sort
 use Rattle.chc_form.specs.declared.system.System.{System}
 use Rattle.chc_form.specs.declared.lemma.Lemma.{Lemma}
 use Rattle.chc_form.specs.WellMade.{is_number, well_made, of_system}
-use Rattle.chc_form.proofs.Passing.{passes}
 use Rattle.chc_templates.specs.Constants.{constants_of}
 use Rattle.chc_templates.specs.Candidates.{splits_sort, konst_for, lemma_on, lemmas_on, on_place, on_places, on_preds, on_numbers, candidates_of}
 
 -- ---- each passes a test that holds of the lemmas on numbers
 
-both : (a b : Bool) → a ≡ true → b ≡ true → (a && b) ≡ true
-both a b h k = rw (h, k) refl
-
 list_all-join : (f : Lemma → Bool) (xs ys : List Lemma) → list_all f xs ≡ true → list_all f ys ≡ true → list_all f (xs ++ ys) ≡ true
 list_all-join f [] ys h k = k
 list_all-join f (x ∷ xs) ys h k =
-    let a = passes (f x) (list_all f xs) h in
-    both (f x) (list_all f (xs ++ ys)) a.0 (list_all-join f xs ys a.1 k)
+    let a = and_parts (f x) (list_all f xs) h in
+    and_from (f x) (list_all f (xs ++ ys)) a.0 (list_all-join f xs ys a.1 k)
 
 list_all-front : (f : Lemma → Bool) (n : ℕ) (xs : List Lemma) → list_all f xs ≡ true → list_all f (take n xs) ≡ true
 list_all-front f zero xs h = refl
 list_all-front f (suc n) [] h = refl
 list_all-front f (suc n) (x ∷ xs) h =
-    let a = passes (f x) (list_all f xs) h in
-    both (f x) (list_all f (take n xs)) a.0 (list_all-front f n xs a.1)
+    let a = and_parts (f x) (list_all f xs) h in
+    and_from (f x) (list_all f (take n xs)) a.0 (list_all-front f n xs a.1)
 
 -- the entries at places from i on
 abbrev From : {A : Type 0} → List A → ℕ → List A → Type 0
@@ -48,7 +45,7 @@ split-number k sort.Free h = refl
 split-number k (sort.Map keys value) h = absurd (cc (h))
 
 on_place-all : (f : Lemma → Bool) (b : Bool) (p i : ℕ) (c : ℤ) → (b ≡ true → f (lemma_on p i c) ≡ true) → list_all f (lemmas_on p i (cond b (Some c) None)) ≡ true
-on_place-all f true p i c h = both (f (lemma_on p i c)) true (h refl) refl
+on_place-all f true p i c h = and_from (f (lemma_on p i c)) true (h refl) refl
 on_place-all f false p i c h = refl
 
 -- a lemma on a place whose entry is a number

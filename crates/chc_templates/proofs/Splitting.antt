@@ -4,7 +4,7 @@ use lib.IntN.{ℤ}
 use Rattle.std.specs.Prelude.{nat_lt, if◌then◌else◌}
 use Rattle.std.specs.List.{list_all}
 use Rattle.std.proofs.lemmas.Int.{ints}
-use Rattle.std.proofs.lemmas.Bool.{ltb-true}
+use Rattle.std.proofs.lemmas.Bool.{ltb-true, and_parts}
 use Rattle.std.proofs.lemmas.List.{take-append-le}
 use Rattle.chc_nums.specs.declared.Ty.{Ty}
 use Rattle.chc_nums.specs.declared.Ty.TheVariants as ty
@@ -15,13 +15,13 @@ use Rattle.chc_form.specs.declared.system.Sort.{Sort}
 use Rattle.chc_form.specs.declared.system.System.{System}
 use Rattle.chc_form.specs.declared.lemma.Lemma.{Lemma}
 use Rattle.chc_form.specs.WellMade.{is_size, is_sized, is_sort, is_few, all_few, well_made}
-use Rattle.chc_form.proofs.Passing.{passes}
+use Rattle.chc_form.proofs.Passing.{first-sort, rest-sorts}
 use Rattle.chc_templates.specs.Candidates.{splits, on_place, on_places, on_preds, on_numbers}
 
 -- ---- sizes
 
 size-of : (n : ℕ) → is_size n ≡ true → IsSize n
-size-of n h = let a = passes (nat_lt 0 n) (nat_lt n 13) h in (omega (arith, ltb-true 0 n a.0), omega (arith, ltb-true n 13 a.1))
+size-of n h = let a = and_parts (nat_lt 0 n) (nat_lt n 13) h in (omega (arith, ltb-true 0 n a.0), omega (arith, ltb-true n 13 a.1))
 
 pub type-of_size : (t : Ty) → is_sized t ≡ true → IsType t
 type-of_size ty.Bool h = tt
@@ -32,14 +32,14 @@ type-of_size ty.Addr h = tt
 pub made-few : (s : System) → well_made s ≡ true → length s.preds < 2 ^ 31
 unfolding well_made
 made-few s h =
-    let a = passes (all_few (all_few is_sort) s.preds) _ h in
-    ltb-true (length s.preds) (2 ^ 31) (passes (is_few s.preds) (list_all (all_few is_sort) s.preds) a.0).0
+    let a = and_parts (all_few (all_few is_sort) s.preds) _ h in
+    ltb-true (length s.preds) (2 ^ 31) (and_parts (is_few s.preds) (list_all (all_few is_sort) s.preds) a.0).0
 
 pub made-sorts : (s : System) → well_made s ≡ true → list_all (all_few is_sort) s.preds ≡ true
 unfolding well_made
 made-sorts s h =
-    let a = passes (all_few (all_few is_sort) s.preds) _ h in
-    (passes (is_few s.preds) (list_all (all_few is_sort) s.preds) a.0).1
+    let a = and_parts (all_few (all_few is_sort) s.preds) _ h in
+    (and_parts (is_few s.preds) (list_all (all_few is_sort) s.preds) a.0).1
 
 -- ---- constants of literals
 
@@ -101,25 +101,19 @@ numbers_onward-all preds ls (k ∷ ks) = numbers_onward-all preds (take 1024 (ls
 pub numbers_onward-is : (preds : List (List Sort)) (ks : List ℤ) → numbers_onward preds [] ks ≡ take 1024 (on_numbers preds ks)
 numbers_onward-is preds ks = numbers_onward-all preds [] ks
 
-pub first-sort : (s : Sort) (ss : List Sort) → list_all is_sort (s ∷ ss) ≡ true → is_sort s ≡ true
-first-sort s ss h = (passes (is_sort s) (list_all is_sort ss) h).0
-
-pub other-sorts : (s : Sort) (ss : List Sort) → list_all is_sort (s ∷ ss) ≡ true → list_all is_sort ss ≡ true
-other-sorts s ss h = (passes (is_sort s) (list_all is_sort ss) h).1
-
 pub places-few : (ss : List Sort) (more : List (List Sort)) → list_all (all_few is_sort) (ss ∷ more) ≡ true → length ss < 2 ^ 31
 places-few ss more h =
-    let a = passes (all_few is_sort ss) (list_all (all_few is_sort) more) h in
-    ltb-true (length ss) (2 ^ 31) (passes (is_few ss) (list_all is_sort ss) a.0).0
+    let a = and_parts (all_few is_sort ss) (list_all (all_few is_sort) more) h in
+    ltb-true (length ss) (2 ^ 31) (and_parts (is_few ss) (list_all is_sort ss) a.0).0
 
 pub places-sorts : (ss : List Sort) (more : List (List Sort)) → list_all (all_few is_sort) (ss ∷ more) ≡ true → list_all is_sort ss ≡ true
 places-sorts ss more h =
-    let a = passes (all_few is_sort ss) (list_all (all_few is_sort) more) h in
-    (passes (is_few ss) (list_all is_sort ss) a.0).1
+    let a = and_parts (all_few is_sort ss) (list_all (all_few is_sort) more) h in
+    (and_parts (is_few ss) (list_all is_sort ss) a.0).1
 
 pub other-places : (ss : List Sort) (more : List (List Sort)) → list_all (all_few is_sort) (ss ∷ more) ≡ true → list_all (all_few is_sort) more ≡ true
-other-places ss more h = (passes (all_few is_sort ss) (list_all (all_few is_sort) more) h).1
+other-places ss more h = (and_parts (all_few is_sort ss) (list_all (all_few is_sort) more) h).1
 
 pub ruleset places = (full-place, nothing-more)
 
-pub ruleset steps = (places_onward-is, preds_onward-is, numbers_onward-is, first-sort, other-sorts, places-few, places-sorts, other-places, made-few, made-sorts)
+pub ruleset steps = (places_onward-is, preds_onward-is, numbers_onward-is, first-sort, rest-sorts, places-few, places-sorts, other-places, made-few, made-sorts)

@@ -4,12 +4,12 @@ use Rattle.std.specs.List.{list_all}
 use Rattle.std.proofs.Math.Seq.{take-append_seam}
 use Rattle.std.proofs.lemmas.List.{take-append-drop, length-append}
 use Rattle.std.proofs.lemmas.List.Folds.{list_all-append}
+use Rattle.std.proofs.lemmas.Bool.{and_from}
 use Rattle.chc_form.specs.declared.system.System.{System}
 use Rattle.chc_form.specs.declared.lemma.Lemma.{Lemma}
 use Rattle.chc_form.specs.Solving.{Solves, Relative}
 use Rattle.chc_form.specs.WellMade.{well_made, of_system}
 use Rattle.chc_form.proofs.Joining.{joined}
-use Rattle.chc_reduce.proofs.Satisfying.{both-true}
 use Rattle.pool_state.specs.declared.joined.Joined.{Joined}
 use Rattle.pool_state.specs.Content.{Batched, Content, Grown, empty, more, IsBatch, IsPool, Fits}
 
@@ -38,7 +38,7 @@ pool-joined c b j p q f base len =
     let within : j.base ≤ length c.lemmas = omega (arith, ap length f.prefix, length-append b.base f.rest, base) in
     let added : list_all (of_system c.system) b.lemmas ≡ true = subst (λ (s : System). list_all (of_system s) b.lemmas ≡ true) f.same q.lemmas_of in record {
       made = p.made;
-      lemmas_of = list_all-append (of_system c.system) c.lemmas b.lemmas ∙ both-true (list_all (of_system c.system) c.lemmas) (list_all (of_system c.system) b.lemmas) p.lemmas_of added;
+      lemmas_of = list_all-append (of_system c.system) c.lemmas b.lemmas ∙ and_from (list_all (of_system c.system) c.lemmas) (list_all (of_system c.system) b.lemmas) p.lemmas_of added;
       grown = more p.grown j b.lemmas within len relative;
     }
 

@@ -3,6 +3,7 @@ use Rattle.std.proofs.Common.{◌≡◌, ◌∙◌, sym, ap, subst, refl, ℕ, z
 use Rattle.std.specs.List.{Contains}
 use Rattle.std.proofs.lemmas.Bool.Decides.{nat_tests}
 use Rattle.std.proofs.lemmas.Option.{slice_get-get_or}
+use Rattle.std.proofs.lemmas.Bool.{and_parts}
 use lib.IntN.{ℤ}
 use Rattle.chc_form.specs.declared.formula.Formula.{Formula}
 use Rattle.chc_form.specs.declared.system.Rule.{Rule}
@@ -13,7 +14,6 @@ use Rattle.chc_form.specs.Formulas.{FormulaRefuted}
 use Rattle.chc_form.specs.Solving.{Relative}
 use Rattle.chc_form.specs.WellMade.{well_made}
 use Rattle.chc_form.proofs.Farkas.{refutes-fractions}
-use Rattle.chc_form.proofs.Passing.{passes as both}
 use Rattle.chc_reduce.specs.Obligations.{Obligation, at_rules, for_lemmas, obligations}
 use Rattle.chc_reduce.specs.Reduced.{reduced}
 use Rattle.chc_reduce.specs.Rows.{rows_of}
@@ -107,5 +107,5 @@ pub proved-none : (os : List Obligation) (ps : List (List ℤ)) → all_pass ps 
 proved-none [] ps h = refl
 proved-none (o ∷ os) [] h = absurd (cc (h))
 proved-none (o ∷ os) (p ∷ ps) h =
-    let a = both (passes p (rows_of o.formula)) (all_pass ps os) h in
+    let a = and_parts (passes p (rows_of o.formula)) (all_pass ps os) h in
     rw a.0 (proved-none os ps a.1)

@@ -11,6 +11,7 @@ use Rattle.chc_form.specs.declared.Lemma.{Lemma}
 use Rattle.chc_form.specs.Linear.{AllAscend}
 use Rattle.chc_form.specs.WellMade.{well_made, of_system}
 use Rattle.chc_form.proofs.Passing.{entry-passes}
+use Rattle.chc_form.proofs.Entries.{contains-first, contains-later}
 use Rattle.chc_simplex.specs.declared.Lp.{Lp}
 use Rattle.chc_simplex.specs.declared.Lp.TheVariants as lp
 use Rattle.chc_simplex.specs.TableauRun.{tableau_run}
@@ -20,7 +21,6 @@ use Rattle.chc_reduce.specs.Reduced.{reduced}
 use Rattle.chc_reduce.specs.Rows.{rows_of, is_plain, branch_of}
 use Rattle.chc_reduce.specs.Obligations.{Obligation, at_rules, for_lemmas, obligations}
 use Rattle.chc_reduce.proofs.Ordered.{reduced-ordered}
-use Rattle.chc_reduce.proofs.Sorts.{contains-first, contains-later}
 use Rattle.chc_ask.specs.declared.Asked.TheVariants as asked
 use Rattle.chc_ask.specs.Asked.{answered, asked_of}
 use Rattle.chc_templates.specs.Candidates.{candidates_of}

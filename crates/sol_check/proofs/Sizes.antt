@@ -3,6 +3,7 @@ use Rattle.std.proofs.Common.{◌≡◌, ◌∙◌, refl, ap, ℕ, suc, ◌+◌,
 use Rattle.std.specs.List.{All, list_all}
 use Rattle.std.proofs.lemmas.Bool.Decides.{nat_tests}
 use Rattle.std.proofs.lemmas.Option.{slice_get_cases}
+use Rattle.std.proofs.lemmas.Bool.{and_from}
 use lib.IntN.{ℤ}
 use Rattle.chc_nums.specs.Types.{IsSize}
 use Rattle.sol_core.specs.declared.Expr.{Expr, Num, Scalar, Cast}
@@ -22,9 +23,6 @@ use Rattle.sol_first.specs.Elaborated.{type_at, sites_of_step, sites_of_steps, c
 use Rattle.sol_eval.specs.Sized.{is_size, type_sized, expr_sized, stmt_sized, fun_sized, is_sized}
 use Rattle.sol_eval.proofs.Sizes.{sized-Num, sized-Scalar, sized-Arith, sized-Compare, sized-Cast, sized-Set, sized-Require, sized-Assert}
 
-all-pass : (a b : Bool) → a ≡ true → b ≡ true → (a && b) ≡ true
-all-pass a b p q = rw (p, q) refl
-
 module _ (vars : List Variable) (sizes : All (λ v. IsSize v.size) vars) where
   declared-sized : (i : ℕ) → i < length vars → type_sized (type_at vars i) ≡ true
   declared-sized i h = elim (slice_get_cases vars i).1 [
@@ -32,16 +30,16 @@ module _ (vars : List Variable) (sizes : All (λ v. IsSize v.size) vars) where
         let size : IsSize (get_or vars i there.0).size = sizes i there.0 h in
         let exact : IsSize there.0.size = rw there.3 at size in
         let e : size_at vars i ≡ there.0.size = ap size_of there.2 in
-        ap is_size e ∙ all-pass (nat_le 1 there.0.size) (nat_le there.0.size 12) (grind (arith, nat_tests)) (grind (arith, nat_tests))
+        ap is_size e ∙ and_from (nat_le 1 there.0.size) (nat_le there.0.size 12) (grind (arith, nat_tests)) (grind (arith, nat_tests))
     | inr past ↦ absurd (omega arith)
   ]
 
   condition-sized : (i : ℕ) (o : Order) (n : ℤ) → expr_sized (condition vars i o n) ≡ true
-  condition-sized i o n = sized-Compare (cmp_of o) (Scalar i) (Num n (type_at vars i)) ∙ all-pass (expr_sized (Scalar i)) (expr_sized (Num n (type_at vars i))) (sized-Scalar i) (sized-Num n (type_at vars i))
+  condition-sized i o n = sized-Compare (cmp_of o) (Scalar i) (Num n (type_at vars i)) ∙ and_from (expr_sized (Scalar i)) (expr_sized (Num n (type_at vars i))) (sized-Scalar i) (sized-Num n (type_at vars i))
 
   either-sized : (b : Bool) (from to : ℕ) (e : Expr) → to < length vars → expr_sized e ≡ true → expr_sized (cond b e (Cast (type_at vars from) (type_at vars to) e)) ≡ true
   either-sized true from to e h s = s
-  either-sized false from to e h s = sized-Cast (type_at vars from) (type_at vars to) e ∙ all-pass (type_sized (type_at vars to)) (expr_sized e) (declared-sized to h) s
+  either-sized false from to e h s = sized-Cast (type_at vars from) (type_at vars to) e ∙ and_from (type_sized (type_at vars to)) (expr_sized e) (declared-sized to h) s
 
   converted-sized : (from to : ℕ) (e : Expr) → to < length vars → expr_sized e ≡ true → expr_sized (converted vars from to e) ≡ true
   converted-sized from to e h s = either-sized (eqb (size_at vars from) (size_at vars to)) from to e h s
@@ -49,8 +47,8 @@ module _ (vars : List Variable) (sizes : All (λ v. IsSize v.size) vars) where
   shifted-sized : (o : Op) (from : ℕ) (n : ℤ) (m : Marks) → from < length vars → expr_sized (shifted vars o from n m) ≡ true
   shifted-sized o from n m h =
       sized-Arith o (type_at vars from) true (Scalar from) (Num n (type_at vars from)) m
-      ∙ all-pass (type_sized (type_at vars from)) (expr_sized (Scalar from) && expr_sized (Num n (type_at vars from))) (declared-sized from h)
-      (all-pass (expr_sized (Scalar from)) (expr_sized (Num n (type_at vars from))) (sized-Scalar from) (sized-Num n (type_at vars from)))
+      ∙ and_from (type_sized (type_at vars from)) (expr_sized (Scalar from) && expr_sized (Num n (type_at vars from))) (declared-sized from h)
+      (and_from (expr_sized (Scalar from)) (expr_sized (Num n (type_at vars from))) (sized-Scalar from) (sized-Num n (type_at vars from)))
 
   put-sized : (to : ℕ) (e : Expr) → expr_sized e ≡ true → stmt_sized (Set (place.Scalar to) e) ≡ true
   put-sized to e s = sized-Set (place.Scalar to) e ∙ s
@@ -68,15 +66,15 @@ module _ (vars : List Variable) (sizes : All (λ v. IsSize v.size) vars) where
   steps-sized : (first : ℕ) (ss : List Step) → All (StepTyped vars) ss → list_all stmt_sized (stmts_of vars first ss) ≡ true
   steps-sized first [] h = refl
   steps-sized first (s ∷ ss) h =
-      all-pass (stmt_sized (stmt_of vars first s)) (list_all stmt_sized (stmts_of vars (first + length (sites_of_step s)) ss)) (step-sized first s (h 0 s (omega arith)))
+      and_from (stmt_sized (stmt_of vars first s)) (list_all stmt_sized (stmts_of vars (first + length (sites_of_step s)) ss)) (step-sized first s (h 0 s (omega arith)))
       (steps-sized (first + length (sites_of_step s)) ss (λ k d below. let next : suc k < length (s ∷ ss) = omega arith in h (suc k) d next))
 
   functions-sized : (first : ℕ) (fs : List Function) → All (λ f. All (StepTyped vars) f.steps) fs → list_all fun_sized (funs_of vars first fs) ≡ true
   functions-sized first [] h = refl
   functions-sized first (f ∷ fs) h =
-      all-pass (fun_sized (fun_of vars first f)) (list_all fun_sized (funs_of vars (first + length (sites_of_steps f.steps)) fs)) (steps-sized first f.steps (h 0 f (omega arith)))
+      and_from (fun_sized (fun_of vars first f)) (list_all fun_sized (funs_of vars (first + length (sites_of_steps f.steps)) fs)) (steps-sized first f.steps (h 0 f (omega arith)))
       (functions-sized (first + length (sites_of_steps f.steps)) fs (λ k d below. let next : suc k < length (f ∷ fs) = omega arith in h (suc k) d next))
 
 -- the program of a contract that is typed is one that the evaluator runs
 pub program_sized : (c : Contract) → IsTyped c → is_sized (program_of c) ≡ true
-program_sized c h = all-pass (list_all fun_sized (funs_of c.variables 0 c.functions)) true (functions-sized c.variables h.sizes 0 c.functions h.steps) refl
+program_sized c h = and_from (list_all fun_sized (funs_of c.variables 0 c.functions)) true (functions-sized c.variables h.sizes 0 c.functions h.steps) refl

@@ -3,6 +3,7 @@ use Rattle.std.proofs.Common.{◌≡◌, ◌∙◌, sym, ap, refl, ℕ, zero, su
 use Rattle.std.specs.List.{list_all}
 use lib.IntN.{ℤ}
 use Rattle.std.proofs.lemmas.Bool.Decides.{nat_tests}
+use Rattle.std.proofs.lemmas.Bool.{and_parts}
 use Rattle.chc_nums.specs.declared.Ty.{Ty}
 use Rattle.chc_nums.specs.declared.Ty.TheVariants as ty
 use Rattle.chc_nums.specs.declared.Op.{Op}
@@ -22,14 +23,10 @@ use Rattle.sol_eval.specs.Sized.{type_sized, expr_layer, expr_sized, place_sized
 use Rattle.sol_core.specs.declared.Fun.{Fun}
 use Rattle.sol_core.specs.declared.Program.{Program}
 
-pub both : (a b : Bool) → (a && b) ≡ true → (a ≡ true) × (b ≡ true)
-both true b h = (refl, h)
-both false b h = absurd (cc)
-
 pub type_size : (t : Ty) → type_sized t ≡ true → IsType t
 type_size ty.Bool h = tt
-type_size (ty.Uint s) h = let p = both (nat_le 1 s) (nat_le s 12) h in (grind (arith, nat_tests), grind (arith, nat_tests))
-type_size (ty.Int s) h = let p = both (nat_le 1 s) (nat_le s 12) h in (grind (arith, nat_tests), grind (arith, nat_tests))
+type_size (ty.Uint s) h = let p = and_parts (nat_le 1 s) (nat_le s 12) h in (grind (arith, nat_tests), grind (arith, nat_tests))
+type_size (ty.Int s) h = let p = and_parts (nat_le 1 s) (nat_le s 12) h in (grind (arith, nat_tests), grind (arith, nat_tests))
 type_size ty.Addr h = tt
 
 pub sized-Num : (n : ℤ) (t : Ty) → expr_sized (Num n t) ≡ true
@@ -66,28 +63,28 @@ sized-Assert e site = ap (λ (z : Stmt). fold-Stmt Bool stmt_layer z) (sym (roll
 
 -- the parts of a form that is sized
 pub arith-type : (o : Op) (t : Ty) (c : Bool) (a b : Expr) (m : Marks) → expr_sized (Arith o t c a b m) ≡ true → type_sized t ≡ true
-arith-type o t c a b m h = (both (type_sized t) (expr_sized a && expr_sized b) (sym (sized-Arith o t c a b m) ∙ h)).0
+arith-type o t c a b m h = (and_parts (type_sized t) (expr_sized a && expr_sized b) (sym (sized-Arith o t c a b m) ∙ h)).0
 
 pub arith-first : (o : Op) (t : Ty) (c : Bool) (a b : Expr) (m : Marks) → expr_sized (Arith o t c a b m) ≡ true → expr_sized a ≡ true
-arith-first o t c a b m h = (both (expr_sized a) (expr_sized b) (both (type_sized t) (expr_sized a && expr_sized b) (sym (sized-Arith o t c a b m) ∙ h)).1).0
+arith-first o t c a b m h = (and_parts (expr_sized a) (expr_sized b) (and_parts (type_sized t) (expr_sized a && expr_sized b) (sym (sized-Arith o t c a b m) ∙ h)).1).0
 
 pub arith-second : (o : Op) (t : Ty) (c : Bool) (a b : Expr) (m : Marks) → expr_sized (Arith o t c a b m) ≡ true → expr_sized b ≡ true
-arith-second o t c a b m h = (both (expr_sized a) (expr_sized b) (both (type_sized t) (expr_sized a && expr_sized b) (sym (sized-Arith o t c a b m) ∙ h)).1).1
+arith-second o t c a b m h = (and_parts (expr_sized a) (expr_sized b) (and_parts (type_sized t) (expr_sized a && expr_sized b) (sym (sized-Arith o t c a b m) ∙ h)).1).1
 
 pub compare-first : (c : Cmp) (a b : Expr) → expr_sized (Compare c a b) ≡ true → expr_sized a ≡ true
-compare-first c a b h = (both (expr_sized a) (expr_sized b) (sym (sized-Compare c a b) ∙ h)).0
+compare-first c a b h = (and_parts (expr_sized a) (expr_sized b) (sym (sized-Compare c a b) ∙ h)).0
 
 pub compare-second : (c : Cmp) (a b : Expr) → expr_sized (Compare c a b) ≡ true → expr_sized b ≡ true
-compare-second c a b h = (both (expr_sized a) (expr_sized b) (sym (sized-Compare c a b) ∙ h)).1
+compare-second c a b h = (and_parts (expr_sized a) (expr_sized b) (sym (sized-Compare c a b) ∙ h)).1
 
 pub cast-type : (s t : Ty) (a : Expr) → expr_sized (Cast s t a) ≡ true → type_sized t ≡ true
-cast-type s t a h = (both (type_sized t) (expr_sized a) (sym (sized-Cast s t a) ∙ h)).0
+cast-type s t a h = (and_parts (type_sized t) (expr_sized a) (sym (sized-Cast s t a) ∙ h)).0
 
 pub cast-value : (s t : Ty) (a : Expr) → expr_sized (Cast s t a) ≡ true → expr_sized a ≡ true
-cast-value s t a h = (both (type_sized t) (expr_sized a) (sym (sized-Cast s t a) ∙ h)).1
+cast-value s t a h = (and_parts (type_sized t) (expr_sized a) (sym (sized-Cast s t a) ∙ h)).1
 
 pub set-value : (p : Place) (e : Expr) → stmt_sized (Set p e) ≡ true → expr_sized e ≡ true
-set-value p e h = (both (place_sized p) (expr_sized e) (sym (sized-Set p e) ∙ h)).1
+set-value p e h = (and_parts (place_sized p) (expr_sized e) (sym (sized-Set p e) ∙ h)).1
 
 pub require-condition : (e : Expr) → stmt_sized (Require e) ≡ true → expr_sized e ≡ true
 require-condition e h = sym (sized-Require e) ∙ h
@@ -98,20 +95,20 @@ assert-condition e site h = sym (sized-Assert e site) ∙ h
 -- an entry of a list of sized forms
 pub entry-sized : {A : Type 0} (test : A → Bool) (xs : List A) (i : ℕ) (x : A) → list_all test xs ≡ true → slice_get xs i ≡ Some x → test x ≡ true
 entry-sized test [] i x h e = absurd (cc)
-entry-sized test (y ∷ ys) zero x h e = let p : y ≡ x = cc in let q = both (test y) (list_all test ys) h in rw (← p) q.0
-entry-sized test (y ∷ ys) (suc i) x h e = entry-sized test ys i x (both (test y) (list_all test ys) h).1 e
+entry-sized test (y ∷ ys) zero x h e = let p : y ≡ x = cc in let q = and_parts (test y) (list_all test ys) h in rw (← p) q.0
+entry-sized test (y ∷ ys) (suc i) x h e = entry-sized test ys i x (and_parts (test y) (list_all test ys) h).1 e
 
 pub first-sized : {A : Type 0} (test : A → Bool) (x : A) (xs : List A) → list_all test (x ∷ xs) ≡ true → test x ≡ true
-first-sized test x xs h = (both (test x) (list_all test xs) h).0
+first-sized test x xs h = (and_parts (test x) (list_all test xs) h).0
 
 pub rest-sized : {A : Type 0} (test : A → Bool) (x : A) (xs : List A) → list_all test (x ∷ xs) ≡ true → list_all test xs ≡ true
-rest-sized test x xs h = (both (test x) (list_all test xs) h).1
+rest-sized test x xs h = (and_parts (test x) (list_all test xs) h).1
 
 pub bodies-sized : (p : Program) → is_sized p ≡ true → list_all fun_sized p.funs ≡ true
-bodies-sized p h = (both (list_all fun_sized p.funs) (list_all build_sized p.builds) h).0
+bodies-sized p h = (and_parts (list_all fun_sized p.funs) (list_all build_sized p.builds) h).0
 
 pub initialisers-sized : (p : Program) → is_sized p ≡ true → list_all build_sized p.builds ≡ true
-initialisers-sized p h = (both (list_all fun_sized p.funs) (list_all build_sized p.builds) h).1
+initialisers-sized p h = (and_parts (list_all fun_sized p.funs) (list_all build_sized p.builds) h).1
 
 pub body_sized : (fs : List Fun) (i : ℕ) (f : Fun) → list_all fun_sized fs ≡ true → slice_get fs i ≡ Some f → fun_sized f ≡ true
 body_sized fs i f h e = entry-sized fun_sized fs i f h e

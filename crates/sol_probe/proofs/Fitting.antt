@@ -4,6 +4,7 @@ use Rattle.std.specs.List.{flat_map, list_all}
 use Rattle.std.specs.Ordering.{int_eq}
 use Rattle.std.proofs.lemmas.Int.{ints}
 use Rattle.std.proofs.Math.Pow.{pow_mono}
+use Rattle.std.proofs.lemmas.Bool.{and_from}
 use lib.IntN.{ℤ}
 use lib.Signed.{lt_z}
 use Rattle.chc_nums.specs.declared.Ty.{Ty}
@@ -55,9 +56,6 @@ each-at P (x ∷ xs) (suc k) d i h = let below : k < length xs = omega arith in 
 each-held : {A : Type 0} (P : A → Type 0) (xs : List A) (x : A) → Each P xs → Contains xs x → P x
 each-held P xs x h i = subst P i.2 (each-at P xs i.0 x i.1 h)
 
-all-pass : (a b : Bool) → a ≡ true → b ≡ true → (a && b) ≡ true
-all-pass a b p q = rw (p, q) refl
-
 -- corner values lie in their types
 not-below : (a b : ℤ) → b ≤ℤ a → not (lt_z a b) ≡ true
 not-below a b h = grind (arith, ints)
@@ -75,7 +73,7 @@ greatest-one (ty.Int s) h = let p : 2 ^ 1 ≤ 2 ^ (8 * s - 1) = pow_mono {i = 1}
 greatest-one ty.Addr h = omega (arith, ints)
 
 between : (t : Ty) (v : ℤ) → least t ≤ℤ v → v ≤ℤ greatest t → in_range t v ≡ true
-between t v l g = all-pass (not (lt_z v (least t))) (not (lt_z (greatest t) v)) (not-below v (least t) l) (not-below (greatest t) v g)
+between t v l g = and_from (not (lt_z v (least t))) (not (lt_z (greatest t) v)) (not-below v (least t) l) (not-below (greatest t) v g)
 
 each-unless : (P : ℤ → Type 0) (b : Bool) (v : ℤ) (vs : List ℤ) → P v → Each P vs → Each P (unless b v vs)
 each-unless P true v vs h g = g
@@ -106,7 +104,7 @@ choices-fit [] = (refl, tt)
 choices-fit (t ∷ ts) =
     let P : List ℤ → Type 0 = λ vs. takes (t ∷ ts) vs ≡ true in
     let front : (v : ℤ) → in_range t v ≡ true → Each P (fronted (choices ts) v) =
-    λ v h. each-map P (λ vs. v ∷ vs) (choices ts) (each-more (λ vs. takes ts vs ≡ true) (λ vs. takes (t ∷ ts) (v ∷ vs) ≡ true) (λ vs g. all-pass (in_range t v) (takes ts vs) h g) (choices ts) (choices-fit ts)) in
+    λ v h. each-map P (λ vs. v ∷ vs) (choices ts) (each-more (λ vs. takes ts vs ≡ true) (λ vs. takes (t ∷ ts) (v ∷ vs) ≡ true) (λ vs g. and_from (in_range t v) (takes ts vs) h g) (choices ts) (choices-fit ts)) in
     each-flat_map P (fronted (choices ts)) (corners t) (each-more (λ v. in_range t v ≡ true) (λ v. Each P (fronted (choices ts) v)) front (corners t) (corners-fit t))
 
 senders-fit : Each (λ s. is_sender s ≡ true) senders
@@ -162,17 +160,17 @@ calls-fit p = calls_from-fit p 0 p.doors (λ k. let same : 0 + k ≡ k = omega a
 called-fits : (p : Program) (c : PlainCall) → Calls p c → call_fits p (roll-Call (record { fun = c.door; sender = c.sender; args = c.args; replies = [] })) ≡ true
 called-fits p c h =
     fold-roll-Call Bool Bool (λ d. takes_args (door p d.fun) d.args && is_sender d.sender && each d.replies) (λ r. each r.calls) (record { fun = c.door; sender = c.sender; args = c.args; replies = [] })
-    ∙ all-pass (takes_args (door p c.door) c.args && is_sender c.sender) true (all-pass (takes_args (door p c.door) c.args) (is_sender c.sender) h.args h.sender) refl
+    ∙ and_from (takes_args (door p c.door) c.args && is_sender c.sender) true (and_from (takes_args (door p c.door) c.args) (is_sender c.sender) h.args h.sender) refl
 
 alone-fits : (p : Program) (s : Script) → Deploys p s → Fits p s
 alone-fits p s h =
     let none : list_all (call_fits p) s.calls ≡ true = ap (λ (cs : List Call). list_all (call_fits p) cs) h.alone in
-    all-pass (takes p.params s.args && is_sender s.sender) (list_all (call_fits p) s.calls) (all-pass (takes p.params s.args) (is_sender s.sender) h.args h.sender) none
+    and_from (takes p.params s.args && is_sender s.sender) (list_all (call_fits p) s.calls) (and_from (takes p.params s.args) (is_sender s.sender) h.args h.sender) none
 
 with_call-fits : (p : Program) (s : Script) (c : PlainCall) → Deploys p s → Calls p c → Fits p (with_call s c)
 with_call-fits p s c h g =
-    all-pass (takes p.params s.args && is_sender s.sender) (list_all (call_fits p) (with_call s c).calls) (all-pass (takes p.params s.args) (is_sender s.sender) h.args h.sender)
-    (all-pass (call_fits p (roll-Call (record { fun = c.door; sender = c.sender; args = c.args; replies = [] }))) true (called-fits p c g) refl)
+    and_from (takes p.params s.args && is_sender s.sender) (list_all (call_fits p) (with_call s c).calls) (and_from (takes p.params s.args) (is_sender s.sender) h.args h.sender)
+    (and_from (call_fits p (roll-Call (record { fun = c.door; sender = c.sender; args = c.args; replies = [] }))) true (called-fits p c g) refl)
 
 all-fit : (p : Program) → Each (Fits p) (probes p)
 unfolding probes
