@@ -1,19 +1,20 @@
 -- Steps of the loops that make lists, and of tests on numbers.
-use Rattle.std.proofs.Common.{◌≡◌, ap, refl, ℕ, zero, suc, ◌+◌, ◌≤◌, ◌%◌, ◌==◌, List, [], ◌∷◌, ◌++◌, append_assoc, append-nil, Option, Some, None, false, arith}
-use Rattle.std.proofs.lemmas.Nat.Gcd.{IsGcd-from_zero, IsGcd-from_mod, same_from_IsGcd}
+use Rattle.std.proofs.Common.{◌≡◌, sym, ap, refl, ℕ, zero, suc, ◌+◌, ◌≤◌, ◌%◌, ◌==◌, List, [], ◌∷◌, ◌++◌, append_assoc, append-nil, Option, Some, None, false, arith}
+use Rattle.std.proofs.lemmas.Nat.Gcd.{IsGcd-from_zero, IsGcd-from_mod, IsGcd-swap, same_from_IsGcd}
 use Rattle.std.specs.Int.{IsGcd, w128}
 use lib.IntN.{ℤ, pos, negsuc}
-use Rattle.std.specs.Prelude.{int_div, FitsSigned, Result, Ok, Err}
+use Rattle.std.specs.Prelude.{int_div, ◌+ℤ◌, unsigned_abs, FitsSigned, Result, Ok, Err}
 use Rattle.std.specs.Result.{OkIff, result_ok}
 use Rattle.chc_nums.proofs.Fits.{in_128_of}
 use Rattle.std.specs.Ordering.{int_eq}
 use Rattle.std.proofs.lemmas.Int.{ints, to_z-of_z}
-use Rattle.std.proofs.Math.Nat.{div-zero}
+use Rattle.std.proofs.Math.Nat.{div-zero, div-one}
 use Rattle.chc_nums.specs.Wide.{in_128, fits_128, divided}
 use Rattle.std.proofs.lemmas.Bool.Decides.{nat_tests}
 use Rattle.chc_simplex.specs.Outcomes.{with_value, joined}
 use Rattle.chc_simplex.specs.Divisors.{gcd, gcd_in}
-use Rattle.chc_simplex.specs.Lines.{Tableau}
+use Rattle.chc_simplex.specs.Terms.{Terms}
+use Rattle.chc_simplex.specs.Lines.{Tableau, common}
 use Rattle.chc_simplex.specs.TableauRun.{nonbasic}
 use Rattle.chc_simplex.specs.Endings.{zeros}
 
@@ -65,6 +66,15 @@ gcd-same a b g h = same_from_IsGcd a b g (gcd a b) h (gcd-is a b)
 
 pub ruleset divisors = (gcd-same)
 
+gcd-one : (x : ℕ) → gcd 1 x ≡ 1
+gcd-one x = let e : x % 1 ≡ 0 = omega arith in sym (gcd-same 1 x 1 (IsGcd-swap x 1 1 (IsGcd-from_mod x 1 1 (IsGcd-from_zero 1 (x % 1) e))))
+
+pub common-one : (ts : Terms) → common 1 ts ≡ 1
+common-one [] = refl
+common-one (t ∷ ts) = rw (gcd-one (unsigned_abs t.1)) (common-one ts)
+
+pub ruleset ones = (common-one)
+
 -- ---- quotients
 
 quotient-zero : (a : ℤ) → int_div a (pos 0) ≡ pos 0
@@ -82,7 +92,14 @@ pub quotient-is : (a b : ℤ) → (b ≡ pos 0 → ⊥) → divided a b (int_div
 unfolding divided in_128
 quotient-is a b h = rw (int_eq-false b h) refl
 
-pub ruleset quotients = (quotient-by_zero, quotient-is, to_z-of_z)
+quotient-one : (a : ℤ) → int_div a (pos 1) ≡ a
+quotient-one (pos a) = ap pos (div-one a)
+quotient-one (negsuc a) = omega (arith, ints, div-one (suc a))
+
+pub quotient-by_one : (a b : ℤ) → b ≡ pos 1 → in_128 (a +ℤ pos 0) ≡ in_128 (int_div a b)
+quotient-by_one a b h = let e : a +ℤ pos 0 ≡ a = omega (arith, ints) in rw (h, quotient-one a, e) refl
+
+pub ruleset quotients = (quotient-by_one, quotient-by_zero, quotient-is, to_z-of_z)
 
 -- a number with a sign, as std converts it
 pub converted : {E : Type 0} (r : Result ℤ E) (z : ℤ) → OkIff r (FitsSigned w128 z) z → result_ok r ≡ in_128 z

@@ -24,6 +24,17 @@ pub struct Line {
     pub terms: List<(usize, i128)>,
 }
 
+/// The tableau of a run: the number of variables before the slacks, the bounds of the slacks, the lines, and of each line
+/// whether its variable is a basic slack above its bound, or none where a number of that test leaves 128 bits. So a round
+/// tests again only lines that a pivot changed.
+#[derive(Drop)]
+pub struct Board {
+    pub variables: usize,
+    pub bounds: List<i128>,
+    pub tableau: List<Option<Line>>,
+    pub marks: List<Option<bool>>,
+}
+
 /// What a round finds.
 #[derive(Clone, Copy, Debug, PartialEq, Eq)]
 pub enum Step {

@@ -3,6 +3,7 @@
 //! the run left 128 bits or took too many pivots.
 #![tactic(auto)]
 
+mod board;
 mod data;
 mod endings;
 mod lines;

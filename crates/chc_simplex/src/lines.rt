@@ -1,8 +1,8 @@
-// Lines of the tableau, and a pivot.
+// Lines of the tableau.
 
-ghost use Rattle.std.specs.Prelude.{◌≡◌, slice_set, unsigned_abs};
+ghost use Rattle.std.specs.Prelude.{◌≡◌, unsigned_abs};
 ghost use Rattle.chc_simplex.specs.Outcomes.{Gives};
-ghost use Rattle.chc_simplex.specs.Lines.{line_at, terms_of, denominator_of, common, divided_terms, divided_line, reduced, turned_up, turned_down, turned, with_entered, rewritten_at, rewritten, exchanged, pivot};
+ghost use Rattle.chc_simplex.specs.Lines.{line_at, terms_of, denominator_of, common, divided_terms, divided_line, reduced, turned_up, turned_down, turned, with_entered};
 
 use crate::data::{Line, Stop};
 use crate::numbers::{gcd, quotient, signed};
@@ -32,22 +32,17 @@ pub fn denominator_at(tableau: &[Option<Line>], variable: usize) -> i128
     }
 }
 
-// Puts an entry at a place; past the end nothing changes.
-fn put(tableau: &mut List<Option<Line>>, variable: usize, entry: Option<Line>)
-    ensures { tableau.new ≡ slice_set tableau.old variable entry }
-{
-    if variable < tableau.len() {
-        tableau.set(variable, entry);
-    }
-}
-
 // The greatest common divisor of a number and all coefficients.
+#[tactic(auto, using(crate::proofs::Steps::ones))]
 fn common(first: u128, terms: &[(usize, i128)]) -> u128
     ensures { result ≡ common first terms.now }
 {
     let mut divisor = first;
     let mut rest = terms;
     while let [(_, a), more @ ..] = rest {
+        if divisor == 1 {
+            return 1;
+        }
         divisor = gcd(divisor, a.unsigned_abs());
         rest = more;
     }
@@ -147,8 +142,8 @@ fn turned_down(
     })
 }
 
-// The leaving line for one of its variables.
-fn turned(
+/// The leaving line for one of its variables.
+pub fn turned(
     alloc: Global,
     denominator: i128,
     terms: &[(usize, i128)],
@@ -166,7 +161,8 @@ fn turned(
     }
 }
 
-fn with_entered(
+/// A line with the entering variable, whose coefficient is given, put in.
+pub fn with_entered(
     alloc: Global,
     entering: usize,
     entered: &Line,
@@ -189,77 +185,4 @@ fn with_entered(
         entered.terms.as_slice(),
     )?;
     reduced(alloc, denominator, terms.as_slice())
-}
-
-// The tableau with the entering variable put into the line at a place. A line without it stays as it is.
-#[tactic(auto, unfolding(crate::specs::Lines::rewritten_at), using(crate::proofs::Rewriting::kept))]
-fn rewritten_at(
-    alloc: Global,
-    entering: usize,
-    entered: &Line,
-    tableau: List<Option<Line>>,
-    at: usize,
-) -> Result<List<Option<Line>>, Stop>
-    ensures { Gives result (rewritten_at entering entered.now tableau at) }
-{
-    let mut tableau = tableau;
-    let Some(Some(line)) = tableau.get(at) else {
-        return Ok(tableau);
-    };
-    let a = coefficient(line.terms.as_slice(), entering);
-    if a == 0 {
-        return Ok(tableau);
-    }
-    let made = with_entered(alloc, entering, entered, a, line)?;
-    put(&mut tableau, at, Some(made));
-    Ok(tableau)
-}
-
-// Each line with the entering variable put in. The others are not touched, so a pivot takes memory for changed lines alone.
-#[tactic(auto, using(crate::proofs::Rewriting::turns))]
-fn rewritten(
-    alloc: Global,
-    entering: usize,
-    entered: &Line,
-    tableau: List<Option<Line>>,
-) -> Result<List<Option<Line>>, Stop>
-    ensures { Gives result (rewritten entering entered.now tableau) }
-{
-    let mut tableau = tableau;
-    for at in 0..tableau.len() {
-        tableau = rewritten_at(alloc, entering, entered, tableau, at)?;
-    }
-    Ok(tableau)
-}
-
-fn exchanged(
-    alloc: Global,
-    tableau: List<Option<Line>>,
-    leaving: usize,
-    entering: usize,
-    entered: Line,
-) -> Result<List<Option<Line>>, Stop>
-    ensures { Gives result (exchanged tableau leaving entering entered) }
-{
-    let mut tableau = tableau;
-    put(&mut tableau, leaving, None);
-    let mut made = rewritten(alloc, entering, &entered, tableau)?;
-    put(&mut made, entering, Some(entered));
-    Ok(made)
-}
-
-/// The tableau after a slack left the basis and a variable entered.
-#[tactic(auto, unfolding(crate::specs::Lines::pivot))]
-pub fn pivot(
-    alloc: Global,
-    tableau: List<Option<Line>>,
-    leaving: usize,
-    entering: usize,
-) -> Result<List<Option<Line>>, Stop>
-    ensures { Gives result (pivot tableau leaving entering) }
-{
-    let denominator = denominator_at(tableau.as_slice(), leaving);
-    let terms = terms_at(tableau.as_slice(), leaving);
-    let entered = turned(alloc, denominator, terms, leaving, entering)?;
-    exchanged(alloc, tableau, leaving, entering, entered)
 }

@@ -5,14 +5,17 @@ ghost use Rattle.chc_nums.specs.Wide.{in_128};
 ghost use Rattle.chc_simplex.specs.Divisors.{gcd};
 ghost use Rattle.chc_simplex.specs.Endings.{multiple, lowest};
 
-use chc_nums::product;
+use chc_nums::{product, sum};
 
 /// The quotient, truncated towards zero and 0 by 0, or none where it leaves 128 bits.
 #[tactic(auto, using(crate::proofs::Steps::quotients))]
 pub fn quotient(a: i128, b: i128) -> Option<i128>
     ensures { result ≡ in_128 (int_div a b) }
 {
-    if b == 0 {
+    // Most divisors are 1, and a division of 128 bits is slow.
+    if b == 1 {
+        sum(a, 0)
+    } else if b == 0 {
         Some(0)
     } else {
         chc_nums::quotient(a, b)

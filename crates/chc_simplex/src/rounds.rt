@@ -1,8 +1,8 @@
-// What a round finds: the slack that leaves and the variable that enters.
+// The slack that leaves and the variable that enters.
 
 ghost use Rattle.std.specs.Prelude.{◌≡◌, ◌+◌, ◌<◌, ◌^◌, length, pos};
 ghost use Rattle.chc_simplex.specs.Terms.{sums_from};
-ghost use Rattle.chc_simplex.specs.Rounds.{number_at, rest_at, line_above, is_above, first_above, is_suitable, entering, leaves_for, step_of, next_step};
+ghost use Rattle.chc_simplex.specs.Rounds.{number_at, rest_at, line_above, is_above, is_suitable, entering, leaves_for, step_of};
 
 use crate::data::{Line, Step};
 use crate::lines::terms_at;
@@ -50,7 +50,13 @@ fn line_above(variables: usize, bounds: &[i128], bound: i128, line: &Line) -> Op
     Some(most < value)
 }
 
-fn is_above(variables: usize, bounds: &[i128], variable: usize, line: &Option<Line>) -> Option<bool>
+/// Whether a variable is a basic slack above its bound, or none where a number leaves 128 bits.
+pub fn is_above(
+    variables: usize,
+    bounds: &[i128],
+    variable: usize,
+    line: &Option<Line>,
+) -> Option<bool>
     ensures { result ≡ is_above variables bounds.now variable line.now }
 {
     match line {
@@ -67,22 +73,6 @@ fn is_above(variables: usize, bounds: &[i128], variable: usize, line: &Option<Li
             )
         }
     }
-}
-
-// The first basic slack above its bound.
-fn first_above(variables: usize, bounds: &[i128], tableau: &[Option<Line>]) -> Option<Option<usize>>
-    ensures { result ≡ first_above variables bounds.now 0 tableau.now }
-{
-    let mut variable = 0;
-    let mut rest = tableau;
-    while let [line, more @ ..] = rest {
-        if is_above(variables, bounds, variable, line)? {
-            return Some(Some(variable));
-        }
-        variable += 1;
-        rest = more;
-    }
-    Some(None)
 }
 
 fn is_suitable(variables: usize, variable: usize, a: i128) -> bool
@@ -114,20 +104,12 @@ fn leaves_for(leaving: usize, entering: Option<usize>) -> Step
     }
 }
 
-fn step_of(variables: usize, tableau: &[Option<Line>], leaving: Option<usize>) -> Step
+/// What follows for the slack that leaves.
+pub fn step_of(variables: usize, tableau: &[Option<Line>], leaving: Option<usize>) -> Step
     ensures { result ≡ step_of variables tableau.now leaving }
 {
     match leaving {
         None => Step::AllHold,
         Some(leaving) => leaves_for(leaving, entering(variables, terms_at(tableau, leaving))),
     }
-}
-
-/// What a round finds, or none where a number leaves 128 bits.
-#[tactic(auto, unfolding(crate::specs::Rounds::next_step))]
-pub fn next_step(variables: usize, bounds: &[i128], tableau: &[Option<Line>]) -> Option<Step>
-    ensures { result ≡ next_step variables bounds.now tableau.now }
-{
-    let leaving = first_above(variables, bounds, tableau)?;
-    Some(step_of(variables, tableau, leaving))
 }

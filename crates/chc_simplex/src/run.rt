@@ -4,12 +4,12 @@ ghost use Rattle.std.specs.Prelude.{◌≡◌, ◌+◌, ◌<◌, ◌≤◌, ◌^
 ghost use Rattle.chc_form.specs.Linear.{AllAscend, lins};
 ghost use Rattle.chc_simplex.specs.Outcomes.{Gives};
 ghost use Rattle.chc_simplex.specs.Answers.{Answers};
+ghost use Rattle.chc_simplex.specs.Board.{AreMarked};
 ghost use Rattle.chc_simplex.specs.TableauRun.{terms_width, width, bounds_of, nonbasic, slack_lines, first_tableau, run_from, whole_run, tableau_run};
 
-use crate::data::{Line, Lp, Step, Stop};
+use crate::board::{marks_of, next_step, pivot};
+use crate::data::{Board, Line, Lp, Step, Stop};
 use crate::endings::{point, refutation};
-use crate::lines::pivot;
-use crate::rounds::next_step;
 use chc_form::Row;
 use chc_nums::{List, NoMemory, opposite};
 use std::alloc::Global;
@@ -113,34 +113,43 @@ fn first_tableau(alloc: Global, rows: &[Row]) -> Result<List<Option<Line>>, Stop
 
 // The run from a tableau on.
 #[tactic(auto, using(crate::proofs::Turns::rounds))]
-fn run_from(
-    alloc: Global,
-    rows: &[Row],
-    bounds: &[i128],
-    pivots: u32,
-    tableau: List<Option<Line>>,
-) -> Result<Lp, Stop>
-    requires { length rows.now < 2 ^ 31 }
-    ensures { Gives result (run_from (lins rows.now) bounds.now pivots tableau) }
+fn run_from(alloc: Global, rows: &[Row], pivots: u32, board: Board) -> Result<Lp, Stop>
+    requires few { length rows.now < 2 ^ 31 }
+    requires marked { AreMarked board }
+    requires variables { board.variables ≡ width (lins rows.now) }
+    requires narrow { board.variables ≤ 2 ^ 32 }
+    ensures { Gives result (run_from (lins rows.now) board.bounds pivots board.tableau) }
 {
-    let variables = width(rows);
     let mut left = pivots;
-    let mut tableau = tableau;
+    let mut board = board;
     'rounds: loop {
-        let Some(step) = next_step(variables, bounds, tableau.as_slice()) else {
+        let Some(step) = next_step(&board) else {
             return Err(Stop::Wide);
         };
         match step {
-            Step::AllHold => return point(alloc, variables, bounds, tableau.as_slice()),
+            Step::AllHold => {
+                return point(
+                    alloc,
+                    board.variables,
+                    board.bounds.as_slice(),
+                    board.tableau.as_slice(),
+                );
+            }
             Step::Stuck(stuck) => {
-                return refutation(alloc, variables, rows, tableau.as_slice(), stuck);
+                return refutation(
+                    alloc,
+                    board.variables,
+                    rows,
+                    board.tableau.as_slice(),
+                    stuck,
+                );
             }
             Step::Pivot(leaving, entering) => {
                 if left == 0 {
                     return Ok(Lp::Pivots);
                 }
                 left -= 1;
-                tableau = pivot(alloc, tableau, leaving, entering)?;
+                board = pivot(alloc, board, leaving, entering)?;
             }
         }
     }
@@ -151,9 +160,17 @@ fn run(alloc: Global, rows: &[Row], pivots: u32) -> Result<Lp, Stop>
     requires { length rows.now < 2 ^ 31 }
     ensures { Gives result (whole_run (lins rows.now) pivots) }
 {
+    let variables = width(rows);
     let bounds = bounds_of(alloc, rows)?;
     let tableau = first_tableau(alloc, rows)?;
-    run_from(alloc, rows, bounds.as_slice(), pivots, tableau)
+    let marks = marks_of(alloc, variables, bounds.as_slice(), tableau.as_slice())?;
+    let board = Board {
+        variables,
+        bounds,
+        tableau,
+        marks,
+    };
+    run_from(alloc, rows, pivots, board)
 }
 
 /// The answer of the simplex tableau by Bland's rule, with so many pivots at most.

@@ -1,0 +1,32 @@
+-- Marks of lines, as lines are put.
+use Rattle.std.proofs.Common.{◌≡◌, ◌∙◌, sym, ap, refl, ℕ, zero, suc, ◌+◌, List, [], ◌∷◌, Bool, true, false, Option, Some, None, arith, if◌then◌else◌}
+use Rattle.std.specs.Prelude.{slice_set}
+use lib.IntN.{ℤ}
+use Rattle.chc_simplex.specs.declared.data.Line.{Line}
+use Rattle.chc_simplex.specs.declared.data.Board.{Board}
+use Rattle.chc_simplex.specs.Outcomes.{with_value}
+use Rattle.chc_simplex.specs.Lines.{Tableau}
+use Rattle.chc_simplex.specs.Rounds.{is_above, first_above}
+use Rattle.chc_simplex.specs.Board.{marks_of, first_marked, AreMarked}
+
+marked-then : (v : ℕ) (m : Option Bool) (a b : Option (Option ℕ)) → a ≡ b → with_value m (λ above. if above then Some (Some v) else a) ≡ with_value m (λ above. if above then Some (Some v) else b)
+marked-then v m a b e = rw e refl
+
+marked-above : (n : ℕ) (bounds : List ℤ) (v : ℕ) (tab : Tableau) → first_marked v (marks_of n bounds v tab) ≡ first_above n bounds v tab
+marked-above n bounds v [] = refl
+marked-above n bounds v (o ∷ os) = marked-then v (is_above n bounds v o) (first_marked (v + 1) (marks_of n bounds (v + 1) os)) (first_above n bounds (v + 1) os) (marked-above n bounds (v + 1) os)
+
+pub first-is : (b : Board) → AreMarked b → first_marked 0 b.marks ≡ first_above b.variables b.bounds 0 b.tableau
+first-is b h = ap (first_marked 0) h.marks ∙ marked-above b.variables b.bounds 0 b.tableau
+
+marks-put : (n : ℕ) (bounds : List ℤ) (v i : ℕ) (tab : Tableau) (o : Option Line) → marks_of n bounds v (slice_set tab i o) ≡ slice_set (marks_of n bounds v tab) i (is_above n bounds (v + i) o)
+marks-put n bounds v i [] o = refl
+marks-put n bounds v zero (p ∷ ps) o = let e : v + 0 ≡ v = omega arith in rw e refl
+marks-put n bounds v (suc i) (p ∷ ps) o =
+    let e : v + suc i ≡ (v + 1) + i = omega arith in
+    rw e (ap (λ (ms : List (Option Bool)). is_above n bounds v p ∷ ms) (marks-put n bounds (v + 1) i ps o))
+
+pub put-marked : (n : ℕ) (bounds : List ℤ) (tab : Tableau) (i : ℕ) (o : Option Line) → slice_set (marks_of n bounds 0 tab) i (is_above n bounds i o) ≡ marks_of n bounds 0 (slice_set tab i o)
+put-marked n bounds tab i o = let e : 0 + i ≡ i = omega arith in sym (marks-put n bounds 0 i tab o ∙ ap (λ (k : ℕ). slice_set (marks_of n bounds 0 tab) i (is_above n bounds k o)) e)
+
+pub ruleset marks = (first-is, put-marked)
