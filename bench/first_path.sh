@@ -1,7 +1,6 @@
 #!/usr/bin/env bash
 # Times the proved program on a contract of 64 functions of 16 statements each, and prints time and peak memory; where z3
-# is installed, z3 on the same questions stands beside it. Build the program first (./solchc or rt ci). Memory is kept at
-# hand as ./solchc has it.
+# is installed, z3 on the same questions stands beside it. Build the program first (./solchc or rt ci).
 set -u
 top=$(cd "$(dirname "${BASH_SOURCE[0]}")/.." && pwd) || exit 1
 program=$top/crates/solchc/out/solchc
@@ -72,7 +71,7 @@ PY
 }
 
 echo "$(nproc) processors, $(grep -m1 'model name' /proc/cpuinfo | cut -d: -f2 | sed 's/^ //')"
-GLIBC_TUNABLES=${GLIBC_TUNABLES:-glibc.malloc.tcache_count=2000} measure solchc "$program" check "$folder/bench.sol"
+measure solchc "$program" check "$folder/bench.sol"
 if command -v z3 >/dev/null; then
   measure z3 z3 "$folder/bench.smt2"
 else

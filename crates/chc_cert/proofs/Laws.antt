@@ -6,13 +6,13 @@ use Rattle.std.specs.List.{list_all}
 use Rattle.std.specs.Ordering.{int_eq}
 use Rattle.std.proofs.lemmas.Int.{ints}
 use Rattle.std.proofs.lemmas.Bool.{cases_lt, and_parts}
+use Rattle.chc_nums.specs.Values.{with_value}
 use Rattle.chc_form.specs.declared.linear.Lin.{Lin}
 use Rattle.chc_form.specs.Linear.{AllAscend}
 use Rattle.chc_form.specs.Multipliers.{coef, weighted, NoneNegative, Refutes}
 use Rattle.chc_simplex.specs.declared.data.Step.TheVariants as step
 use Rattle.chc_simplex.specs.declared.data.Lp.{Lp}
 use Rattle.chc_simplex.specs.declared.data.Lp.TheVariants as lp
-use Rattle.chc_simplex.specs.Outcomes.{with_value}
 use Rattle.chc_simplex.specs.Lines.{Tableau, line_at, terms_of, denominator_of, pivot}
 use Rattle.chc_simplex.specs.Rounds.{number_at, next_step}
 use Rattle.chc_simplex.specs.Endings.{fractions, multiples, numerators, point_of, point, multipliers, variable_sums, constant_sum, zeros, summed, refutation}

@@ -6,7 +6,8 @@ use Rattle.std.specs.Int.{w128}
 use Rattle.std.specs.Option.{SomeIff}
 use Rattle.std.proofs.lemmas.Int.{ints}
 use Rattle.std.proofs.lemmas.Bool.Decides.{nat_tests}
-use Rattle.chc_nums.specs.Wide.{fits_128, in_128, with_sum}
+use Rattle.chc_nums.specs.Values.{with_value}
+use Rattle.chc_nums.specs.Wide.{fits_128, in_128}
 
 pub in_128-yes : (z : ℤ) → FitsSigned w128 z → in_128 z ≡ Some z
 unfolding in_128 fits_128
@@ -35,7 +36,7 @@ in_128-cases z =
       | false ↦ (λ e. inr (refl, λ f. fits_not z e f))
     ] refl
 
-pub mul_add-is : (r : Option ℤ) (p q : ℤ) → r ≡ with_sum (in_128 p) (λ x. with_sum (in_128 q) (λ y. in_128 (x +ℤ y))) → SomeIff r (FitsSigned w128 p × FitsSigned w128 q × FitsSigned w128 (p +ℤ q)) (p +ℤ q)
+pub mul_add-is : (r : Option ℤ) (p q : ℤ) → r ≡ with_value (in_128 p) (λ x. with_value (in_128 q) (λ y. in_128 (x +ℤ y))) → SomeIff r (FitsSigned w128 p × FitsSigned w128 q × FitsSigned w128 (p +ℤ q)) (p +ℤ q)
 mul_add-is r p q e =
     let P : Option ℤ → Type 0 = λ o. SomeIff o (FitsSigned w128 p × FitsSigned w128 q × FitsSigned w128 (p +ℤ q)) (p +ℤ q) in
     subst P (sym e)

@@ -3,6 +3,7 @@ use Rattle.std.specs.Prelude.{Option, Some, None, pos, ◌+ℤ◌, ◌*ℤ◌, n
 use lib.IntN.{ℤ}
 use lib.Signed.{lt_z}
 use Rattle.std.specs.Ordering.{int_eq}
+use Rattle.chc_nums.specs.Values.{with_value}
 
 -- whether a number has 128 bits
 unfoldable pub fits_128 : ℤ → Bool
@@ -12,14 +13,9 @@ fits_128 z = not (lt_z z (neg_ℤ (pos (2 ^ 127)))) && lt_z z (pos (2 ^ 127))
 unfoldable pub in_128 : ℤ → Option ℤ
 in_128 z = if fits_128 z then Some z else None
 
--- what follows from a number, or none where there is none
-abbrev pub with_sum : {A : Type 0} → Option ℤ → (ℤ → Option A) → Option A
-with_sum None go = None
-with_sum (Some s) go = go s
-
 -- one product more, or none where the product or the sum leaves 128 bits
 abbrev pub add_product : ℤ → ℤ → ℤ → Option ℤ
-add_product s a b = with_sum (in_128 (a *ℤ b)) (λ p. in_128 (s +ℤ p))
+add_product s a b = with_value (in_128 (a *ℤ b)) (λ p. in_128 (s +ℤ p))
 
 -- x, where a can be divided by b: b is not 0, and the quotient has 128 bits
 unfoldable pub divided : ℤ → ℤ → ℤ → Option ℤ

@@ -3,7 +3,8 @@
 ghost use Rattle.std.specs.Prelude.{◌≡◌, ◌+ℤ◌, ◌-ℤ◌, ◌*ℤ◌, neg_ℤ, FitsSigned, int_div, int_rem};
 ghost use Rattle.std.specs.Int.{w128, IsGcd};
 ghost use Rattle.std.specs.Option.{SomeIff};
-ghost use Rattle.chc_nums.specs.Wide.{in_128, add_product, with_sum, divided};
+ghost use Rattle.chc_nums.specs.Values.{with_value};
+ghost use Rattle.chc_nums.specs.Wide.{in_128, add_product, divided};
 
 /// `a * b + c * d`, or none exactly where a product or the sum leaves 128 bits.
 pub fn mul_add(a: i128, b: i128, c: i128, d: i128) -> Option<i128>
@@ -14,7 +15,7 @@ pub fn mul_add(a: i128, b: i128, c: i128, d: i128) -> Option<i128>
 
 /// `a * b + c * d` by its steps: both products, and then their sum.
 pub fn mul_add_in(a: i128, b: i128, c: i128, d: i128) -> Option<i128>
-    ensures { result ≡ with_sum (in_128 (a *ℤ b)) (λ p. with_sum (in_128 (c *ℤ d)) (λ q. in_128 (p +ℤ q))) }
+    ensures { result ≡ with_value (in_128 (a *ℤ b)) (λ p. with_value (in_128 (c *ℤ d)) (λ q. in_128 (p +ℤ q))) }
 {
     let first = product(a, b)?;
     let second = product(c, d)?;

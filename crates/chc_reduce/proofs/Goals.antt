@@ -4,6 +4,7 @@ use Rattle.std.specs.Prelude.{slice_index_or}
 use Rattle.std.specs.List.{list_all}
 use Rattle.std.proofs.lemmas.List.Folds.{list_all-append}
 use Rattle.std.proofs.lemmas.Option.{slice_get_read}
+use Rattle.chc_nums.specs.Values.{with_value}
 use Rattle.chc_form.specs.declared.linear.Lin.{Lin}
 use Rattle.chc_form.specs.declared.formula.Formula.{Formula, Le, And, Or}
 use Rattle.chc_form.specs.declared.system.Sort.{Sort}
@@ -18,7 +19,7 @@ use Rattle.chc_form.specs.WellMade.{well_made}
 use Rattle.chc_form.proofs.Orders.{rule-ascends}
 use Rattle.chc_form.proofs.Entries.{got-contained}
 use Rattle.chc_reduce.specs.declared.grounds.Grounds.{Grounds}
-use Rattle.chc_reduce.specs.Literals.{with_value, literal_sum, opposite}
+use Rattle.chc_reduce.specs.Literals.{literal_sum, opposite}
 use Rattle.chc_reduce.specs.Reduced.{lower, upper, ranges, at_most, refuted, constraint, instances, reduced_rule, reduced_rule_at}
 use Rattle.chc_reduce.specs.Rows.{joined, rows_of, is_plain, branch_of}
 use Rattle.chc_reduce.specs.Grounds.{goal_part, ranges_part, grounds_part, AreMadeOf, AreGrounds, InOrder}

@@ -4,6 +4,7 @@ use Rattle.std.specs.List.{Contains}
 use Rattle.std.proofs.lemmas.Int.{ints}
 use lib.IntN.{negsuc}
 use Rattle.chc_nums.specs.declared.Ty.{Ty}
+use Rattle.chc_nums.specs.Values.{with_value}
 use Rattle.chc_form.specs.declared.linear.Lin.{Lin}
 use Rattle.chc_form.specs.declared.formula.Formula.{Formula, Le, And, Or}
 use Rattle.chc_form.specs.declared.system.Sort.{Sort}
@@ -23,7 +24,7 @@ use Rattle.chc_form.specs.Sums.{sums_of}
 use Rattle.chc_form.specs.WellMade.{well_made}
 use Rattle.chc_form.proofs.Orders.{rule-ascends, query-ascends}
 use Rattle.chc_form.proofs.Entries.{got-contained, contains-first, contains-later}
-use Rattle.chc_reduce.specs.Literals.{with_value, literal_sum, opposite}
+use Rattle.chc_reduce.specs.Literals.{literal_sum, opposite}
 use Rattle.chc_reduce.specs.Reduced.{lower, upper, ranges, at_most, refuted, granted, goal_parts, constraint, instance_of, instances_at, instances, reduced_rule, reduced_query, reduced_rule_at, reduced_query_at, reduced}
 use Rattle.chc_reduce.specs.Rows.{joined, only, rows_of}
 use Rattle.chc_reduce.proofs.Shapes.{rows_of-Le, rows_of-And, rows_of-Or}

@@ -9,6 +9,7 @@ use lib.IntN.{ℤ}
 use Rattle.chc_nums.specs.Wide.{in_128}
 use Rattle.chc_nums.proofs.Fits.{in_128-value}
 use Rattle.chc_nums.proofs.Ring.{add-mul, zero-mul}
+use Rattle.chc_nums.specs.Values.{with_value}
 use Rattle.chc_form.specs.declared.linear.Lin.{Lin}
 use Rattle.chc_form.specs.declared.system.App.{App}
 use Rattle.chc_form.specs.declared.lemma.LitTerm.{LitTerm}
@@ -17,7 +18,7 @@ use Rattle.chc_form.specs.declared.lemma.Lit.{Lit}
 use Rattle.chc_form.specs.Linear.{sum_of, value_of, AscendFrom, Ascend}
 use Rattle.chc_form.specs.Valuations.{Valuation, at_atom}
 use Rattle.chc_form.specs.Lemmas.{term_value, terms_value, lit_value}
-use Rattle.chc_reduce.specs.Literals.{with_value, put_term, raised, variable_of, terms_onto, literal_sum, opposite_terms, opposite}
+use Rattle.chc_reduce.specs.Literals.{put_term, raised, variable_of, terms_onto, literal_sum, opposite_terms, opposite}
 
 pub value-some : {A B : Type 0} → (o : Option A) (go : A → Option B) (b : B) → with_value o go ≡ Some b → (a : A) × (o ≡ Some a) × (go a ≡ Some b)
 value-some None go b h = absurd (cc)

@@ -4,8 +4,9 @@ use lib.IntN.{ℤ}
 use Rattle.std.specs.Prelude.{nat_lt, ◌+ℤ◌}
 use Rattle.std.proofs.lemmas.Bool.Decides.{nat_tests}
 use Rattle.chc_nums.specs.Wide.{in_128}
+use Rattle.chc_nums.specs.Values.{with_value}
 use Rattle.chc_form.specs.declared.lemma.LitTerm.{LitTerm}
-use Rattle.chc_reduce.specs.Literals.{with_value, put_term, raised, raised_first, opposite_terms}
+use Rattle.chc_reduce.specs.Literals.{put_term, raised, raised_first, opposite_terms}
 
 -- terms that were made, and then those of a rest
 abbrev pub after : {A : Type 0} → List A → Option (List A) → Option (List A)

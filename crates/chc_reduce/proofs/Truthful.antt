@@ -8,6 +8,7 @@ use Rattle.std.proofs.lemmas.Bool.{and_parts, and_from}
 use lib.IntN.{ℤ, negsuc}
 use Rattle.chc_nums.specs.declared.Ty.{Ty}
 use Rattle.chc_nums.specs.Types.{InRange}
+use Rattle.chc_nums.specs.Values.{with_value}
 use Rattle.chc_form.specs.declared.linear.Lin.{Lin}
 use Rattle.chc_form.specs.declared.formula.Formula.{Formula, Le, And, Or}
 use Rattle.chc_form.specs.declared.system.Sort.{Sort}
@@ -28,7 +29,7 @@ use Rattle.chc_form.specs.Constraints.{ConAt, ConsAt}
 use Rattle.chc_form.specs.Lemmas.{lit_value, OneHolds, LemmaAt, AtomHolds, AtomsHold}
 use Rattle.chc_form.specs.Solving.{BodyHolds, QueryHolds}
 use Rattle.chc_form.proofs.Truths.{frac_true-Le, frac_true-And, frac_true-Or}
-use Rattle.chc_reduce.specs.Literals.{with_value, literal_sum, opposite}
+use Rattle.chc_reduce.specs.Literals.{literal_sum, opposite}
 use Rattle.chc_reduce.specs.Reduced.{lower, upper, range_of, ranges, at_most, refuted, granted, goal_parts, constraint, instance_of, instances_at, instances, reduced_rule, reduced_query, reduced_rule_at, reduced_query_at, reduced}
 use Rattle.chc_reduce.proofs.Satisfying.{above_not}
 use Rattle.chc_reduce.proofs.Sums.{literal-value, opposite-value}

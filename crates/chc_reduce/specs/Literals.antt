@@ -3,16 +3,12 @@ use Rattle.std.specs.Prelude.{ℕ, ◌==◌, nat_lt, List, [], ◌∷◌, ◌++�
 use lib.IntN.{ℤ}
 use Rattle.std.specs.Ordering.{int_eq}
 use Rattle.chc_nums.specs.Wide.{in_128}
+use Rattle.chc_nums.specs.Values.{with_value}
 use Rattle.chc_form.specs.declared.linear.Lin.{Lin}
 use Rattle.chc_form.specs.declared.system.App.{App}
 use Rattle.chc_form.specs.declared.lemma.LitTerm.{LitTerm}
 use Rattle.chc_form.specs.declared.lemma.LitTerm.TheVariants as term
 use Rattle.chc_form.specs.declared.lemma.Lit.{Lit}
-
--- what follows from a value, or none where there is none
-abbrev pub with_value : {A B : Type 0} → Option A → (A → Option B) → Option B
-with_value None go = None
-with_value (Some a) go = go a
 
 -- a term in front of others, which vanishes where its coefficient is 0
 abbrev pub put_term : ℕ → ℤ → List (ℕ × ℤ) → List (ℕ × ℤ)

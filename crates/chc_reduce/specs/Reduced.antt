@@ -7,6 +7,7 @@ use Rattle.std.specs.Prelude.{ℕ, suc, ◌==◌, List, [], ◌∷◌, ◌++◌,
 use lib.IntN.{negsuc}
 use Rattle.chc_nums.specs.declared.Ty.{Ty}
 use Rattle.chc_nums.specs.Types.{least, greatest}
+use Rattle.chc_nums.specs.Values.{with_value}
 use Rattle.chc_form.specs.declared.linear.Lin.{Lin}
 use Rattle.chc_form.specs.declared.formula.Formula.{Formula, Le, And, Or}
 use Rattle.chc_form.specs.declared.system.Sort.{Sort}
@@ -21,7 +22,7 @@ use Rattle.chc_form.specs.declared.system.Part.{Part}
 use Rattle.chc_form.specs.declared.system.Part.TheVariants as part
 use Rattle.chc_form.specs.declared.lemma.Lit.{Lit}
 use Rattle.chc_form.specs.declared.lemma.Lemma.{Lemma}
-use Rattle.chc_reduce.specs.Literals.{with_value, literal_sum, opposite}
+use Rattle.chc_reduce.specs.Literals.{literal_sum, opposite}
 
 -- ---- ranges
 

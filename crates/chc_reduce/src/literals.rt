@@ -1,8 +1,9 @@
 // Literals at the arguments of atoms.
 
 ghost use Rattle.std.specs.Prelude.{◌≡◌, ◌++◌, [], ◌+ℤ◌, IfOk, Some};
+ghost use Rattle.chc_nums.specs.Values.{with_value};
 ghost use Rattle.chc_nums.specs.Wide.{in_128};
-ghost use Rattle.chc_reduce.specs.Literals.{with_value, raised_first, put_term, raised, variable_of, terms_onto, literal_sum, opposite_terms, opposite};
+ghost use Rattle.chc_reduce.specs.Literals.{raised_first, put_term, raised, variable_of, terms_onto, literal_sum, opposite_terms, opposite};
 
 use chc_form::{App, Lin, Lit, LitTerm};
 use chc_nums::{List, NoMemory, difference, opposite as negated, sum};

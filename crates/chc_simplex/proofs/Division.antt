@@ -10,9 +10,9 @@ use Rattle.std.proofs.lemmas.Nat.Gcd.{dvd_trans, dvd_refl}
 use Rattle.chc_nums.specs.Wide.{in_128}
 use Rattle.chc_nums.proofs.Fits.{in_128-value}
 use Rattle.chc_nums.proofs.Ring.{mul-add, mul-assoc, mul-comm, zero-mul, mul-nonneg-nonpos}
+use Rattle.chc_nums.specs.Values.{with_value}
 use Rattle.chc_form.specs.Linear.{sum_of}
 use Rattle.chc_simplex.specs.declared.data.Line.{Line}
-use Rattle.chc_simplex.specs.Outcomes.{with_value}
 use Rattle.chc_simplex.specs.Divisors.{gcd}
 use Rattle.chc_simplex.specs.Terms.{Terms}
 use Rattle.chc_simplex.specs.Lines.{line, common, divided_terms, divided_line, reduced}

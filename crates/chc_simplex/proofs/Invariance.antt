@@ -5,10 +5,10 @@ use Rattle.std.specs.Prelude.{slice_set}
 use Rattle.std.proofs.lemmas.Int.{ints}
 use Rattle.std.proofs.lemmas.Bool.{cases_eq, cases_lt}
 use Rattle.std.proofs.lemmas.List.{length-set}
+use Rattle.chc_nums.specs.Values.{with_value}
 use Rattle.chc_form.specs.declared.linear.Lin.{Lin}
 use Rattle.chc_form.specs.Linear.{sum_of, Ascend, AscendFrom, AllAscend}
 use Rattle.chc_simplex.specs.declared.data.Line.{Line}
-use Rattle.chc_simplex.specs.Outcomes.{with_value}
 use Rattle.chc_simplex.specs.Terms.{Terms, coefficient}
 use Rattle.chc_simplex.specs.Lines.{Tableau, line, line_at, terms_of, denominator_of, turned, substituted, rewritten, exchanged, pivot}
 use Rattle.chc_simplex.specs.TableauRun.{terms_width, width, nonbasic, slack_lines, first_tableau}

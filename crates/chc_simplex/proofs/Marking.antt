@@ -2,9 +2,9 @@
 use Rattle.std.proofs.Common.{◌≡◌, ◌∙◌, sym, ap, refl, ℕ, zero, suc, ◌+◌, List, [], ◌∷◌, Bool, true, false, Option, Some, None, arith, if◌then◌else◌}
 use Rattle.std.specs.Prelude.{slice_set}
 use lib.IntN.{ℤ}
+use Rattle.chc_nums.specs.Values.{with_value}
 use Rattle.chc_simplex.specs.declared.data.Line.{Line}
 use Rattle.chc_simplex.specs.declared.data.Board.{Board}
-use Rattle.chc_simplex.specs.Outcomes.{with_value}
 use Rattle.chc_simplex.specs.Lines.{Tableau}
 use Rattle.chc_simplex.specs.Rounds.{is_above, first_above}
 use Rattle.chc_simplex.specs.Board.{marks_of, first_marked, AreMarked}

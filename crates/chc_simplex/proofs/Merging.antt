@@ -5,7 +5,8 @@ use Rattle.std.proofs.lemmas.Bool.Decides.{nat_tests}
 use Rattle.std.proofs.lemmas.Int.{to_z-of_z}
 use Rattle.std.specs.Prelude.{nat_lt}
 use Rattle.chc_nums.specs.Wide.{in_128}
-use Rattle.chc_simplex.specs.Outcomes.{with_value, joined}
+use Rattle.chc_nums.specs.Values.{with_value}
+use Rattle.chc_simplex.specs.Outcomes.{joined}
 use Rattle.chc_simplex.specs.Terms.{Terms, term, pushed, put_before, both, scaled, merged, scaled_onto, merged_onto}
 
 -- ---- one term more at the end

@@ -8,8 +8,8 @@ use Rattle.std.specs.Ordering.{int_eq}
 use Rattle.chc_nums.specs.Wide.{in_128}
 use Rattle.chc_nums.proofs.Fits.{in_128-value}
 use Rattle.chc_nums.proofs.Ring.{mul-add, add-mul, mul-assoc, mul-comm, zero-mul}
+use Rattle.chc_nums.specs.Values.{with_value}
 use Rattle.chc_form.specs.Linear.{sum_of}
-use Rattle.chc_simplex.specs.Outcomes.{with_value}
 use Rattle.chc_simplex.specs.Terms.{Terms, coefficient, others, term, put_before, both, scaled, placed_term, merged}
 
 -- ---- cases

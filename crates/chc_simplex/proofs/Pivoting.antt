@@ -10,9 +10,9 @@ use Rattle.std.proofs.lemmas.Option.{unwrap_or-slice_get}
 use Rattle.chc_nums.specs.Wide.{in_128}
 use Rattle.chc_nums.proofs.Fits.{in_128-value}
 use Rattle.chc_nums.proofs.Ring.{mul-add, add-mul, mul-assoc, mul-comm, zero-mul}
+use Rattle.chc_nums.specs.Values.{with_value}
 use Rattle.chc_form.specs.Linear.{sum_of}
 use Rattle.chc_simplex.specs.declared.data.Line.{Line}
-use Rattle.chc_simplex.specs.Outcomes.{with_value}
 use Rattle.chc_simplex.specs.Terms.{Terms, coefficient, others, merged}
 use Rattle.chc_simplex.specs.Lines.{Tableau, line, line_at, reduced, turned_up, turned_down, turned, with_entered, substituted, rewritten_line, rewritten}
 use Rattle.chc_simplex.proofs.Orders.{value-some, true-or_false, int_eq-true, Within, Within-map, merged-is, others-is, absent-is}

@@ -8,6 +8,7 @@ use Rattle.std.proofs.lemmas.Bool.Decides.{nat_tests}
 use Rattle.chc_nums.specs.Wide.{in_128}
 use Rattle.chc_nums.proofs.Fits.{in_128-value}
 use Rattle.chc_nums.proofs.Ring.{mul-add, add-mul, mul-assoc, mul-comm, zero-mul}
+use Rattle.chc_nums.specs.Values.{with_value}
 use Rattle.chc_form.specs.declared.linear.Lin.{Lin}
 use Rattle.chc_form.specs.Linear.{sum_of}
 use Rattle.chc_form.specs.Multipliers.{coef, weighted, NoneNegative, Refutes}
@@ -15,7 +16,6 @@ use Rattle.chc_form.proofs.Ranges.{between, between-same, between-add, between-s
 use Rattle.chc_simplex.specs.declared.data.Line.{Line}
 use Rattle.chc_simplex.specs.declared.data.Lp.{Lp}
 use Rattle.chc_simplex.specs.declared.data.Lp.TheVariants as lp
-use Rattle.chc_simplex.specs.Outcomes.{with_value}
 use Rattle.chc_simplex.specs.Terms.{Terms, coefficient}
 use Rattle.chc_simplex.specs.Lines.{Tableau, line_at, terms_of, denominator_of}
 use Rattle.chc_simplex.specs.Rounds.{number_at, rest_at, entering}

@@ -6,8 +6,9 @@ use Rattle.std.proofs.lemmas.List.{set-get_or, take_more_set, length-set, drop-s
 use Rattle.std.proofs.lemmas.Option.{unwrap_or-slice_get}
 use Rattle.std.proofs.Math.Seq.{drop-cons}
 use Rattle.std.proofs.Math.ListN.{drop_of_length-le}
+use Rattle.chc_nums.specs.Values.{with_value}
 use Rattle.chc_simplex.specs.declared.data.Line.{Line}
-use Rattle.chc_simplex.specs.Outcomes.{with_value, joined}
+use Rattle.chc_simplex.specs.Outcomes.{joined}
 use Rattle.chc_simplex.specs.Lines.{Tableau, line_at, rewritten_line, rewritten, rewritten_at}
 use Rattle.chc_simplex.proofs.Steps.{joined-nil, joined-more, joined-all}
 

@@ -7,9 +7,9 @@ use Rattle.std.specs.Ordering.{int_eq}
 use Rattle.std.proofs.lemmas.Int.{ints}
 use Rattle.chc_nums.specs.Wide.{in_128, add_product}
 use Rattle.chc_nums.proofs.Fits.{in_128-value}
+use Rattle.chc_nums.specs.Values.{with_value}
 use Rattle.chc_form.specs.Linear.{sum_of}
 use Rattle.chc_simplex.specs.declared.data.Line.{Line}
-use Rattle.chc_simplex.specs.Outcomes.{with_value}
 use Rattle.chc_simplex.specs.Terms.{Terms, coefficient, sums_from}
 use Rattle.chc_simplex.specs.Lines.{Tableau, line_at}
 use Rattle.chc_simplex.specs.Rounds.{rest_at, line_above, is_above, first_above, is_suitable, entering}

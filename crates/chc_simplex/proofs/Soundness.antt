@@ -1,12 +1,12 @@
 -- Each answer of the run says something true of the rows.
 use Rattle.std.proofs.Common.{◌≡◌, ◌∙◌, sym, ap, subst, refl, ℕ, zero, suc, ◌+◌, List, length, Option, Some, None, arith}
 use lib.IntN.{ℤ}
+use Rattle.chc_nums.specs.Values.{with_value}
 use Rattle.chc_form.specs.declared.linear.Lin.{Lin}
 use Rattle.chc_form.specs.Linear.{AllAscend}
 use Rattle.chc_simplex.specs.declared.data.Line.{Line}
 use Rattle.chc_simplex.specs.declared.data.Lp.{Lp}
 use Rattle.chc_simplex.specs.declared.data.Lp.TheVariants as lp
-use Rattle.chc_simplex.specs.Outcomes.{with_value}
 use Rattle.chc_simplex.specs.Lines.{Tableau, line_at, terms_of, pivot}
 use Rattle.chc_simplex.specs.Rounds.{first_above, entering, leaves_for, step_of, next_step}
 use Rattle.chc_simplex.specs.TableauRun.{width, bounds_of, first_tableau, followed, run_from, or_wide, whole_run, tableau_run}

@@ -10,8 +10,9 @@ use Rattle.std.specs.Ordering.{int_eq}
 use Rattle.std.proofs.lemmas.Int.{ints, to_z-of_z}
 use Rattle.std.proofs.Math.Nat.{div-zero, div-one}
 use Rattle.chc_nums.specs.Wide.{in_128, fits_128, divided}
+use Rattle.chc_nums.specs.Values.{with_value}
 use Rattle.std.proofs.lemmas.Bool.Decides.{nat_tests}
-use Rattle.chc_simplex.specs.Outcomes.{with_value, joined}
+use Rattle.chc_simplex.specs.Outcomes.{joined}
 use Rattle.chc_simplex.specs.Divisors.{gcd, gcd_in}
 use Rattle.chc_simplex.specs.Terms.{Terms}
 use Rattle.chc_simplex.specs.Lines.{Tableau, common}

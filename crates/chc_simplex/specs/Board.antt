@@ -1,10 +1,10 @@
 -- A tableau with marks: of each line, whether its variable is a basic slack above its bound.
 use Rattle.std.specs.Prelude.{◌≡◌, ℕ, ◌+◌, Bool, List, [], ◌∷◌, Option, Some, None, Result, Ok, Err, if◌then◌else◌}
 use lib.IntN.{ℤ}
+use Rattle.chc_nums.specs.Values.{with_value}
 use Rattle.chc_simplex.specs.declared.data.Board.{Board}
 use Rattle.chc_simplex.specs.declared.data.Stop.{Stop}
 use Rattle.chc_simplex.specs.declared.data.Stop.TheVariants as stop
-use Rattle.chc_simplex.specs.Outcomes.{with_value}
 use Rattle.chc_simplex.specs.Lines.{Tableau}
 use Rattle.chc_simplex.specs.Rounds.{is_above}
 

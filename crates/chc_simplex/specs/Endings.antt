@@ -3,11 +3,11 @@
 use Rattle.std.specs.Prelude.{ℕ, zero, suc, ◌+◌, ◌==◌, nat_lt, List, [], ◌∷◌, Option, Some, None, pos, ◌*ℤ◌, neg_ℤ, int_div, unsigned_abs, if◌then◌else◌, slice_set}
 use lib.IntN.{ℤ}
 use Rattle.chc_nums.specs.Wide.{in_128, add_product}
+use Rattle.chc_nums.specs.Values.{with_value}
 use Rattle.chc_form.specs.declared.linear.Lin.{Lin}
 use Rattle.chc_simplex.specs.declared.data.Line.{Line}
 use Rattle.chc_simplex.specs.declared.data.Lp.{Lp}
 use Rattle.chc_simplex.specs.declared.data.Lp.TheVariants as lp
-use Rattle.chc_simplex.specs.Outcomes.{with_value}
 use Rattle.chc_simplex.specs.Divisors.{gcd}
 use Rattle.chc_simplex.specs.Terms.{Terms, coefficient, sums_from}
 use Rattle.chc_simplex.specs.Lines.{Tableau, line_at, terms_of, denominator_of}

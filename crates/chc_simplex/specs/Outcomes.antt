@@ -1,12 +1,8 @@
 -- Steps that end the run where a number leaves 128 bits.
 use Rattle.std.specs.Prelude.{◌≡◌, List, ◌++◌, Option, Some, None, Result, Ok, Err}
+use Rattle.chc_nums.specs.Values.{with_value}
 use Rattle.chc_simplex.specs.declared.data.Stop.{Stop}
 use Rattle.chc_simplex.specs.declared.data.Stop.TheVariants as stop
-
--- what follows from a value, or none where a number left 128 bits
-abbrev pub with_value : {A B : Type 0} → Option A → (A → Option B) → Option B
-with_value None go = None
-with_value (Some a) go = go a
 
 -- what follows items that are there already
 abbrev pub joined : {A : Type 0} → List A → Option (List A) → Option (List A)

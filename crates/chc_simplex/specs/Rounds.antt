@@ -4,10 +4,10 @@ use lib.IntN.{ℤ}
 use lib.Signed.{lt_z}
 use Rattle.std.specs.Ordering.{int_eq}
 use Rattle.chc_nums.specs.Wide.{in_128}
+use Rattle.chc_nums.specs.Values.{with_value}
 use Rattle.chc_simplex.specs.declared.data.Line.{Line}
 use Rattle.chc_simplex.specs.declared.data.Step.{Step}
 use Rattle.chc_simplex.specs.declared.data.Step.TheVariants as step
-use Rattle.chc_simplex.specs.Outcomes.{with_value}
 use Rattle.chc_simplex.specs.Terms.{Terms, sums_from}
 use Rattle.chc_simplex.specs.Lines.{Tableau, line_at, terms_of}
 

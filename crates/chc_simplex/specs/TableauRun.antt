@@ -6,12 +6,12 @@
 use Rattle.std.specs.Prelude.{ℕ, zero, suc, ◌+◌, ◌++◌, max, List, [], ◌∷◌, Option, Some, None, pos, neg_ℤ}
 use lib.IntN.{ℤ}
 use Rattle.chc_nums.specs.Wide.{in_128}
+use Rattle.chc_nums.specs.Values.{with_value}
 use Rattle.chc_form.specs.declared.linear.Lin.{Lin}
 use Rattle.chc_simplex.specs.declared.data.Step.{Step}
 use Rattle.chc_simplex.specs.declared.data.Step.TheVariants as step
 use Rattle.chc_simplex.specs.declared.data.Lp.{Lp}
 use Rattle.chc_simplex.specs.declared.data.Lp.TheVariants as lp
-use Rattle.chc_simplex.specs.Outcomes.{with_value}
 use Rattle.chc_simplex.specs.Terms.{Terms}
 use Rattle.chc_simplex.specs.Lines.{Tableau, line, pivot}
 use Rattle.chc_simplex.specs.Rounds.{next_step}

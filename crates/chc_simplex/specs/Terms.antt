@@ -3,7 +3,8 @@ use Rattle.std.specs.Prelude.{ℕ, ◌==◌, nat_lt, List, [], ◌∷◌, ◌++�
 use lib.IntN.{ℤ}
 use Rattle.std.specs.Ordering.{int_eq}
 use Rattle.chc_nums.specs.Wide.{in_128, add_product}
-use Rattle.chc_simplex.specs.Outcomes.{with_value, joined}
+use Rattle.chc_nums.specs.Values.{with_value}
+use Rattle.chc_simplex.specs.Outcomes.{joined}
 
 abbrev pub Terms : Type 0
 Terms = List (ℕ × ℤ)

@@ -6,6 +6,7 @@ use Rattle.std.proofs.lemmas.Bool.Decides.{nat_tests}
 use Rattle.std.proofs.lemmas.List.{take-append-drop}
 use Rattle.chc_nums.specs.declared.typed.Ty.{Ty}
 use Rattle.chc_nums.specs.declared.typed.Ty.TheVariants as ty
+use Rattle.chc_nums.specs.Values.{with_value}
 use Rattle.sol_tree.specs.declared.expr.Initial.{Initial}
 use Rattle.sol_tree.specs.declared.types.Identifier.{Identifier}
 use Rattle.sol_tree.specs.declared.types.Type as types
@@ -30,7 +31,7 @@ use Rattle.sol_first.specs.declared.contract.Function.{Function}
 use Rattle.sol_first.specs.declared.contract.Contract.{Contract}
 use Rattle.sol_first.specs.declared.contract.Step.{Step}
 use Rattle.sol_reader.specs.Language.{IsStep, Pairs, none, more, IsVariable, declared, IsFunction, defined, IsFileOf, contract, Differ, variable_names}
-use Rattle.sol_reader.specs.Reading.{then_value, all_onto, size_in, size_of, is_bare, var_of, variable_in, is_public, is_open, body_in, fun_of, function_in, leading, with_functions, members_of, unit_of, units_of, step_of}
+use Rattle.sol_reader.specs.Reading.{all_onto, size_in, size_of, is_bare, var_of, variable_in, is_public, is_open, body_in, fun_of, function_in, leading, with_functions, members_of, unit_of, units_of, step_of}
 use Rattle.sol_reader.proofs.Steps.{some-is, bind, step-sound, step-complete}
 
 if-some : {A : Type 0} (P : Type 0) (t : Bool) (o : Option A) (z : A) → cond t o None ≡ Some z → (t ≡ true → o ≡ Some z → P) → P

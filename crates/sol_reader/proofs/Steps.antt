@@ -20,13 +20,14 @@ use Rattle.sol_first.specs.declared.contract.Step.TheVariants as step
 use Rattle.sol_reader.specs.declared.step.Test.{Test}
 use Rattle.sol_reader.specs.Places.{line_of, column_of}
 use Rattle.sol_reader.specs.Language.{IsNamed, named, IsNumber, number, operator_of, IsTest, compared, IsStep, required, asserted, put, moved, added, subtracted, Differ, variable_names}
-use Rattle.sol_reader.specs.Reading.{then_value, if_value, place_from, named_in, variable_of, number_in, number_of, order_of, test_in, test_of, changed, change_in, change_of, value_of, assignment_of, step_in, step_of}
+use Rattle.sol_reader.specs.Reading.{if_value, place_from, named_in, variable_of, number_in, number_of, order_of, test_in, test_of, changed, change_in, change_of, value_of, assignment_of, step_in, step_of}
 use Rattle.sol_reader.proofs.Names.{place-sound, place-complete}
+use Rattle.chc_nums.specs.Values.{with_value}
 
 pub some-is : {A : Type 0} (x y : A) → Some x ≡ Some y → x ≡ y
 some-is x y h = cc
 
-pub bind : {A B : Type 0} (P : Type 0) (o : Option A) (go : A → Option B) (z : B) → then_value o go ≡ Some z → ((x : A) → o ≡ Some x → go x ≡ Some z → P) → P
+pub bind : {A B : Type 0} (P : Type 0) (o : Option A) (go : A → Option B) (z : B) → with_value o go ≡ Some z → ((x : A) → o ≡ Some x → go x ≡ Some z → P) → P
 bind P None go z h f = absurd (cc)
 bind P (Some x) go z h f = f x refl h
 
@@ -166,7 +167,7 @@ module _ (vs : List Variable) (d : Differ (variable_names vs)) where
   unfolding value_of change_of variable_of number_of
   change-complete text begin sign to from n y e o a b =
       let t : out-ExprTree (expr.Binary begin y sign o e) ≡ ExprTree-F.Binary begin y sign o e = expr.outs-Binary begin y sign o e in
-      rw (t) (ap (λ (r : Option ℕ). then_value r (λ from. then_value (number_of e) (λ n. changed text o sign to from n))) (named-complete a) ∙ ap (λ (r : Option ℤ). then_value r (λ n. changed text o sign to from n)) (number-complete b))
+      rw (t) (ap (λ (r : Option ℕ). with_value r (λ from. with_value (number_of e) (λ n. changed text o sign to from n))) (named-complete a) ∙ ap (λ (r : Option ℤ). with_value r (λ n. changed text o sign to from n)) (number-complete b))
 
   pub step-complete : (text : List ℕ) (t : Stmt) (s : Step) → IsStep text vs t s → step_of text vs t ≡ Some s
   unfolding step_of value_of

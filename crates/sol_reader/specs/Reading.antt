@@ -4,6 +4,7 @@ use lib.IntN.{ℤ}
 use Rattle.std.specs.List.{All}
 use Rattle.std.specs.Str.{bytes_eq}
 use Rattle.chc_nums.specs.declared.typed.Ty.TheVariants as ty
+use Rattle.chc_nums.specs.Values.{with_value}
 use Rattle.sol_tree.specs.declared.expr.BinaryOp.{BinaryOp}
 use Rattle.sol_tree.specs.declared.expr.BinaryOp.TheVariants as operator
 use Rattle.sol_tree.specs.declared.expr.ExprTree.{ExprTree, out-ExprTree}
@@ -36,10 +37,6 @@ use Rattle.sol_reader.specs.Places.{line_of, column_of}
 use Rattle.sol_reader.specs.declared.fault.ReadFault.{ReadFault}
 use Rattle.sol_reader.specs.declared.fault.ReadFault.TheVariants as fault
 use Rattle.sol_reader.specs.declared.step.Test.{Test}
-
-abbrev pub then_value : {A B : Type 0} → Option A → (A → Option B) → Option B
-then_value None go = None
-then_value (Some x) go = go x
 
 abbrev pub if_value : {A B : Type 0} → Option A → (A → B) → B → B
 if_value None go other = other
@@ -74,7 +71,7 @@ order_of operator.GreaterEqual = Some order.GreaterEqual
 order_of o = None
 
 abbrev pub test_in : List Variable → ExprTree-F ExprTree → Option Test
-test_in vs (ExprTree-F.Binary at x sign o e) = then_value (order_of o) (λ o. then_value (variable_of vs x) (λ v. then_value (number_of e) (λ n. Some (record { variable = v; order = o; number = n }))))
+test_in vs (ExprTree-F.Binary at x sign o e) = with_value (order_of o) (λ o. with_value (variable_of vs x) (λ v. with_value (number_of e) (λ n. Some (record { variable = v; order = o; number = n }))))
 test_in vs e = None
 
 -- `ID c NUM`
@@ -87,7 +84,7 @@ changed text operator.Subtract at to from n = Some (step.Subtract (line_of text 
 changed text o at to from n = None
 
 abbrev pub change_in : List ℕ → List Variable → ℕ → ExprTree-F ExprTree → Option Step
-change_in text vs to (ExprTree-F.Binary at x sign o e) = then_value (variable_of vs x) (λ from. then_value (number_of e) (λ n. changed text o sign to from n))
+change_in text vs to (ExprTree-F.Binary at x sign o e) = with_value (variable_of vs x) (λ from. with_value (number_of e) (λ n. changed text o sign to from n))
 change_in text vs to e = None
 
 -- `ID + NUM` or `ID - NUM`
@@ -99,14 +96,14 @@ unfoldable pub value_of : List ℕ → List Variable → ℕ → ExprTree → Op
 value_of text vs to e = if_value (number_of e) (λ n. Some (step.Put to n)) (if_value (variable_of vs e) (λ from. Some (step.Move to from)) (change_of text vs to e))
 
 abbrev pub assignment_of : List ℕ → List Variable → Simple → Option Step
-assignment_of text vs (simple.Assignment at x sign assign.Assign e) = then_value (variable_of vs x) (λ to. value_of text vs to e)
+assignment_of text vs (simple.Assignment at x sign assign.Assign e) = with_value (variable_of vs x) (λ to. value_of text vs to e)
 assignment_of text vs s = None
 
 abbrev pub required : Option Test → Option Step
-required test = then_value test (λ t. Some (step.Require t.variable t.order t.number))
+required test = with_value test (λ t. Some (step.Require t.variable t.order t.number))
 
 abbrev pub asserted : List ℕ → ℕ → Option Test → Option Step
-asserted text at test = then_value test (λ t. Some (step.Assert (line_of text at) (column_of text at) t.variable t.order t.number))
+asserted text at test = with_value test (λ t. Some (step.Assert (line_of text at) (column_of text at) t.variable t.order t.number))
 
 abbrev pub step_in : List ℕ → List Variable → Stmt-F Stmt → Option Step
 step_in text vs (Stmt-F.Require at e None) = required (test_of vs e)
@@ -123,7 +120,7 @@ step_of text vs s = step_in text vs (out-Stmt s)
 -- what one gives of each entry, after those made; none where it gives none of some entry
 abbrev pub all_onto : {A B : Type 0} → (A → Option B) → List B → List A → Option (List B)
 all_onto one made [] = Some made
-all_onto one made (x ∷ xs) = then_value (one x) (λ y. all_onto one (made ++ y ∷ []) xs)
+all_onto one made (x ∷ xs) = with_value (one x) (λ y. all_onto one (made ++ y ∷ []) xs)
 
 abbrev pub size_in : Type-F types.Type → Option ℕ
 size_in (Type-F.Elementary at (ty.Uint n)) = Some n
@@ -137,7 +134,7 @@ abbrev pub is_bare : Var → Bool
 is_bare v = (length v.marks == 0) && is_none v.initial
 
 abbrev pub var_of : Var → Option Variable
-var_of v = if is_bare v then then_value (size_of v.ty) (λ n. Some (record { size = n; name = v.name.name })) else None
+var_of v = if is_bare v then with_value (size_of v.ty) (λ n. Some (record { size = n; name = v.name.name })) else None
 
 -- `uintN ID ;`
 abbrev pub variable_in : Member → Option Variable
@@ -153,7 +150,7 @@ is_open f = (length f.params == 0) && (is_public f.marks && is_none f.returns)
 
 abbrev pub body_in : List ℕ → List Variable → List ℕ → Option Block → Option Function
 body_in text vs name None = None
-body_in text vs name (Some b) = then_value (all_onto (step_of text vs) [] b.statements) (λ ss. Some (record { name = name; steps = ss }))
+body_in text vs name (Some b) = with_value (all_onto (step_of text vs) [] b.statements) (λ ss. Some (record { name = name; steps = ss }))
 
 abbrev pub fun_of : List ℕ → List Variable → Fun → Option Function
 fun_of text vs f = if is_open f then body_in text vs f.name.name f.body else None
@@ -170,10 +167,10 @@ leading (member.Var at v ∷ ms) = suc (leading ms)
 leading (m ∷ ms) = 0
 
 abbrev pub with_functions : List ℕ → List ℕ → List Variable → List Member → Option Contract
-with_functions text name vs ms = then_value (all_onto (function_in text vs) [] ms) (λ fs. Some (record { name = name; variables = vs; functions = fs }))
+with_functions text name vs ms = with_value (all_onto (function_in text vs) [] ms) (λ fs. Some (record { name = name; variables = vs; functions = fs }))
 
 unfoldable pub members_of : List ℕ → List ℕ → List Member → Option Contract
-members_of text name ms = then_value (all_onto variable_in [] (take (leading ms) ms)) (λ vs. if leb (length vs) 48 then with_functions text name vs (drop (leading ms) ms) else None)
+members_of text name ms = with_value (all_onto variable_in [] (take (leading ms) ms)) (λ vs. if leb (length vs) 48 then with_functions text name vs (drop (leading ms) ms) else None)
 
 -- `contract ID { .. }`
 abbrev pub unit_of : List ℕ → units.Unit → Option Contract
