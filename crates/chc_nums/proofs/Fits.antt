@@ -28,7 +28,7 @@ unfolding fits_128
 fits_not z h f = grind (arith, ints)
 
 -- the two cases of a number
-in_128-cases : (z : ℤ) → ((in_128 z ≡ Some z) × FitsSigned w128 z) ⊎ ((in_128 z ≡ None) × ¬ (FitsSigned w128 z))
+pub in_128-cases : (z : ℤ) → ((in_128 z ≡ Some z) × FitsSigned w128 z) ⊎ ((in_128 z ≡ None) × ¬ (FitsSigned w128 z))
 unfolding in_128
 in_128-cases z =
     elim (fits_128 z) as (λ b. fits_128 z ≡ b → ((cond b (Some z) None ≡ Some z) × FitsSigned w128 z) ⊎ ((cond b (Some z) None ≡ None) × ¬ (FitsSigned w128 z))) [

@@ -3,3 +3,4 @@ pub mod Divisors
 pub mod Quotients
 pub mod Ranges
 pub mod Ring
+pub mod Halves

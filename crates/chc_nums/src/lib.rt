@@ -9,12 +9,14 @@ mod memory;
 mod name;
 #[cfg(test)]
 mod tests;
+mod total;
 mod typed;
 mod wide;
 
 pub use list::List;
 pub use memory::NoMemory;
 pub use name::Name;
+pub use total::Total;
 pub use typed::{Num, Op, Ty, checked_op, division_laws, power, range};
 pub use wide::{
     add_product, difference, gcd, mul_add, mul_add_in, opposite, product, quotient, remainder, sum,

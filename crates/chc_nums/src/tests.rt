@@ -1,7 +1,7 @@
 // Worked values of exact numbers.
 
 use crate::{
-    List, Name, NoMemory, Num, Op, Ty, add_product, checked_op, difference, gcd, mul_add,
+    List, Name, NoMemory, Num, Op, Total, Ty, add_product, checked_op, difference, gcd, mul_add,
     mul_add_in, opposite, product, quotient, range, remainder, sum,
 };
 use std::test::Fail;
@@ -123,5 +123,47 @@ fn lists_and_names(rt: HostRuntime) -> Result<(), Fail> {
     assert_eq!(rt; name.copy(alloc)?.as_str(), "balance");
     let none: Result<(), NoMemory> = Err(NoMemory);
     assert!(rt; none.is_err());
+    Ok(())
+}
+
+// A sum of numbers, and then less others.
+fn total(more: &[i128], less: &[i128]) -> Result<Total, NoMemory> {
+    let mut all = Total::new(0);
+    for n in more {
+        all = all.plus(*n)?;
+    }
+    for n in less {
+        all = all.minus(*n)?;
+    }
+    Ok(all)
+}
+
+#[test]
+fn totals_are_exact(rt: HostRuntime) -> Result<(), Fail> {
+    let most = i128::MAX;
+    let least = i128::MIN;
+    for (more, less, want) in [
+        (&[][..], &[][..], Some(0)),
+        (&[7, -9], &[-3], Some(1)),
+        (&[most, 1, -1], &[], Some(most)),
+        (&[most, most, most], &[most, most], Some(most)),
+        (&[most, 1], &[], None),
+        (&[least], &[1], None),
+        (&[least, least], &[least], Some(least)),
+        (&[least, -1, 1], &[], Some(least)),
+        (
+            &[0x1_0000_0000_0000_0000, -1],
+            &[],
+            Some(0xffff_ffff_ffff_ffff),
+        ),
+        (&[most], &[least, most], None),
+        (&[most], &[least, most, 1], Some(most)),
+    ] {
+        assert_eq!(rt; total(more, less)?.narrow(), want);
+        let other = total(less, more)?.opposite()?;
+        assert_eq!(rt; other.narrow(), want);
+        assert_eq!(rt; other.is_zero(), want == Some(0));
+        assert_eq!(rt; other.copy().narrow(), want);
+    }
     Ok(())
 }

@@ -4,7 +4,6 @@ use Rattle.std.specs.Prelude.{slice_index_or}
 use Rattle.std.specs.List.{list_all}
 use Rattle.std.proofs.lemmas.List.Folds.{list_all-append}
 use Rattle.std.proofs.lemmas.Option.{slice_get_read}
-use Rattle.chc_nums.specs.Values.{with_value}
 use Rattle.chc_form.specs.declared.linear.Lin.{Lin}
 use Rattle.chc_form.specs.declared.formula.Formula.{Formula, Le, And, Or}
 use Rattle.chc_form.specs.declared.system.Sort.{Sort}
@@ -19,7 +18,7 @@ use Rattle.chc_form.specs.WellMade.{well_made}
 use Rattle.chc_form.proofs.Orders.{rule-ascends}
 use Rattle.chc_form.proofs.Entries.{got-contained}
 use Rattle.chc_reduce.specs.declared.grounds.Grounds.{Grounds}
-use Rattle.chc_reduce.specs.Literals.{literal_sum, opposite}
+use Rattle.chc_reduce.specs.Literals.{opposite_sum}
 use Rattle.chc_reduce.specs.Reduced.{lower, upper, ranges, at_most, refuted, constraint, instances, reduced_rule, reduced_rule_at}
 use Rattle.chc_reduce.specs.Rows.{joined, rows_of, is_plain, branch_of}
 use Rattle.chc_reduce.specs.Grounds.{goal_part, ranges_part, grounds_part, AreMadeOf, AreGrounds, InOrder}
@@ -67,7 +66,7 @@ at_most-plain (Some l) = (branch_of-Le l, is_plain-Le l)
 
 refuted-plain : (p : App) (ls : List Lit) → AllPlain (map (refuted p) ls)
 refuted-plain p [] = tt
-refuted-plain p (l ∷ ls) = let e = at_most-plain (with_value (opposite l) (literal_sum p)) in (e.0, e.1, refuted-plain p ls)
+refuted-plain p (l ∷ ls) = let e = at_most-plain (opposite_sum p l) in (e.0, e.1, refuted-plain p ls)
 
 branch-past : (fs gs : List Formula) → AllPlain fs → joined (map branch_of (fs ++ gs)) ≡ joined (map branch_of gs)
 branch-past [] gs h = refl

@@ -4,7 +4,6 @@ use Rattle.std.specs.List.{Contains}
 use Rattle.std.proofs.lemmas.Int.{ints}
 use lib.IntN.{negsuc}
 use Rattle.chc_nums.specs.declared.Ty.{Ty}
-use Rattle.chc_nums.specs.Values.{with_value}
 use Rattle.chc_form.specs.declared.linear.Lin.{Lin}
 use Rattle.chc_form.specs.declared.formula.Formula.{Formula, Le, And, Or}
 use Rattle.chc_form.specs.declared.system.Sort.{Sort}
@@ -24,11 +23,11 @@ use Rattle.chc_form.specs.Sums.{sums_of}
 use Rattle.chc_form.specs.WellMade.{well_made}
 use Rattle.chc_form.proofs.Orders.{rule-ascends, query-ascends}
 use Rattle.chc_form.proofs.Entries.{got-contained, contains-first, contains-later}
-use Rattle.chc_reduce.specs.Literals.{literal_sum, opposite}
+use Rattle.chc_reduce.specs.Literals.{literal_sum, opposite_sum}
 use Rattle.chc_reduce.specs.Reduced.{lower, upper, ranges, at_most, refuted, granted, goal_parts, constraint, instance_of, instances_at, instances, reduced_rule, reduced_query, reduced_rule_at, reduced_query_at, reduced}
 use Rattle.chc_reduce.specs.Rows.{joined, only, rows_of}
 use Rattle.chc_reduce.proofs.Shapes.{rows_of-Le, rows_of-And, rows_of-Or}
-use Rattle.chc_reduce.proofs.Sums.{literal-ascends}
+use Rattle.chc_reduce.proofs.Sums.{literal-ascends, opposite-sum-ascends}
 
 -- the rows of each formula are in order
 abbrev pub AllOrdered : List Formula → Type 0
@@ -77,13 +76,13 @@ at_most-ordered : (p : App) (l : Lit) (o : Option Lin) → literal_sum p l ≡ o
 at_most-ordered p l None e = and-ordered [] tt
 at_most-ordered p l (Some s) e = le-ordered s (literal-ascends p l s e)
 
-refuted-by : (p : App) (o : Option Lit) → AllAscend (rows_of (at_most (with_value o (literal_sum p))))
-refuted-by p None = and-ordered [] tt
-refuted-by p (Some m) = at_most-ordered p m (literal_sum p m) refl
+refuted-by : (p : App) (l : Lit) (o : Option Lin) → opposite_sum p l ≡ o → AllAscend (rows_of (at_most o))
+refuted-by p l None e = and-ordered [] tt
+refuted-by p l (Some s) e = le-ordered s (opposite-sum-ascends p l s e)
 
 pub refuted-ordered : (p : App) (ls : List Lit) → AllOrdered (map (refuted p) ls)
 refuted-ordered p [] = tt
-refuted-ordered p (l ∷ ls) = (refuted-by p (opposite l), refuted-ordered p ls)
+refuted-ordered p (l ∷ ls) = (refuted-by p l (opposite_sum p l) refl, refuted-ordered p ls)
 
 granted-ordered : (p : App) (ls : List Lit) → AllOrdered (map (granted p) ls)
 granted-ordered p [] = tt

@@ -8,7 +8,6 @@ use Rattle.std.proofs.lemmas.Bool.{and_parts, and_from}
 use lib.IntN.{ℤ, negsuc}
 use Rattle.chc_nums.specs.declared.Ty.{Ty}
 use Rattle.chc_nums.specs.Types.{InRange}
-use Rattle.chc_nums.specs.Values.{with_value}
 use Rattle.chc_form.specs.declared.linear.Lin.{Lin}
 use Rattle.chc_form.specs.declared.formula.Formula.{Formula, Le, And, Or}
 use Rattle.chc_form.specs.declared.system.Sort.{Sort}
@@ -29,7 +28,7 @@ use Rattle.chc_form.specs.Constraints.{ConAt, ConsAt}
 use Rattle.chc_form.specs.Lemmas.{lit_value, OneHolds, LemmaAt, AtomHolds, AtomsHold}
 use Rattle.chc_form.specs.Solving.{BodyHolds, QueryHolds}
 use Rattle.chc_form.proofs.Truths.{frac_true-Le, frac_true-And, frac_true-Or}
-use Rattle.chc_reduce.specs.Literals.{literal_sum, opposite}
+use Rattle.chc_reduce.specs.Literals.{literal_sum, opposite_sum}
 use Rattle.chc_reduce.specs.Reduced.{lower, upper, range_of, ranges, at_most, refuted, granted, goal_parts, constraint, instance_of, instances_at, instances, reduced_rule, reduced_query, reduced_rule_at, reduced_query_at, reduced}
 use Rattle.chc_reduce.proofs.Satisfying.{above_not}
 use Rattle.chc_reduce.proofs.Sums.{literal-value, opposite-value}
@@ -126,26 +125,22 @@ at-most-zero (pos zero) = inl (omega (arith, ints))
 at-most-zero (pos (suc n)) = inr (omega (arith, ints))
 at-most-zero (negsuc n) = inl (omega (arith, ints))
 
-refuted-sum : (v : Valuation) (p : App) (l m : Lit) (s : Lin) → opposite l ≡ Some m → literal_sum p m ≡ Some s → (((ks : List ℤ) → lit_value (at_atom v p) ks l ≤ℤ pos 0) → ⊥) → value_of s v.number ≤ℤ pos 0
-refuted-sum v p l m s e f never =
-    let each : (ks : List ℤ) → value_of s v.number ≡ pos 1 -ℤ lit_value (at_atom v p) ks l = λ ks. literal-value p m s v ks f ∙ opposite-value l m (at_atom v p) ks e in
+refuted-sum : (v : Valuation) (p : App) (l : Lit) (s : Lin) → opposite_sum p l ≡ Some s → (((ks : List ℤ) → lit_value (at_atom v p) ks l ≤ℤ pos 0) → ⊥) → value_of s v.number ≤ℤ pos 0
+refuted-sum v p l s e never =
+    let each : (ks : List ℤ) → value_of s v.number ≡ pos 1 -ℤ lit_value (at_atom v p) ks l = λ ks. opposite-value p l s v ks e in
     elim (at-most-zero (lit_value (at_atom v p) [] l)) [
       | inl low ↦ absurd (never (λ ks. omega (arith, ints, each ks, each [], low)))
       | inr high ↦ omega (arith, ints, each [], high)
     ]
 
-refuted-at : (v : Valuation) (p : App) (l m : Lit) (o : Option Lin) → opposite l ≡ Some m → literal_sum p m ≡ o → (((ks : List ℤ) → lit_value (at_atom v p) ks l ≤ℤ pos 0) → ⊥) → TrueAt v.number (at_most o)
-refuted-at v p l m None e f never = nothing-true v.number
-refuted-at v p l m (Some s) e f never = le-true v.number s (refuted-sum v p l m s e f never)
-
-refuted-by : (v : Valuation) (p : App) (l : Lit) (o : Option Lit) → opposite l ≡ o → (((ks : List ℤ) → lit_value (at_atom v p) ks l ≤ℤ pos 0) → ⊥) → TrueAt v.number (at_most (with_value o (literal_sum p)))
+refuted-by : (v : Valuation) (p : App) (l : Lit) (o : Option Lin) → opposite_sum p l ≡ o → (((ks : List ℤ) → lit_value (at_atom v p) ks l ≤ℤ pos 0) → ⊥) → TrueAt v.number (at_most o)
 refuted-by v p l None e never = nothing-true v.number
-refuted-by v p l (Some m) e never = refuted-at v p l m (literal_sum p m) e refl never
+refuted-by v p l (Some s) e never = le-true v.number s (refuted-sum v p l s e never)
 
 goals-true : (v : Valuation) (p : App) (ls : List Lit) → (((ks : List ℤ) → OneHolds (at_atom v p) ks ls) → ⊥) → AllTrue v.number (map (refuted p) ls)
 goals-true v p [] never = refl
 goals-true v p (l ∷ ls) never =
-    all-more v.number (refuted p l) (map (refuted p) ls) (refuted-by v p l (opposite l) refl (λ h. never (λ ks. inl (h ks)))) (goals-true v p ls (λ h. never (λ ks. inr (h ks))))
+    all-more v.number (refuted p l) (map (refuted p) ls) (refuted-by v p l (opposite_sum p l) refl (λ h. never (λ ks. inl (h ks)))) (goals-true v p ls (λ h. never (λ ks. inr (h ks))))
 
 goal-true : (v : Valuation) (p : App) (goal : Lemma) → (LemmaAt (at_atom v p) goal → ⊥) → AllTrue v.number (goal_parts p (Some goal))
 goal-true v p goal never = goals-true v p goal.lits (λ h. never (λ ks fit. h ks))

@@ -7,7 +7,6 @@ use Rattle.std.specs.Prelude.{ℕ, suc, ◌==◌, List, [], ◌∷◌, ◌++◌,
 use lib.IntN.{negsuc}
 use Rattle.chc_nums.specs.declared.Ty.{Ty}
 use Rattle.chc_nums.specs.Types.{least, greatest}
-use Rattle.chc_nums.specs.Values.{with_value}
 use Rattle.chc_form.specs.declared.linear.Lin.{Lin}
 use Rattle.chc_form.specs.declared.formula.Formula.{Formula, Le, And, Or}
 use Rattle.chc_form.specs.declared.system.Sort.{Sort}
@@ -22,7 +21,7 @@ use Rattle.chc_form.specs.declared.system.Part.{Part}
 use Rattle.chc_form.specs.declared.system.Part.TheVariants as part
 use Rattle.chc_form.specs.declared.lemma.Lit.{Lit}
 use Rattle.chc_form.specs.declared.lemma.Lemma.{Lemma}
-use Rattle.chc_reduce.specs.Literals.{literal_sum, opposite}
+use Rattle.chc_reduce.specs.Literals.{literal_sum, opposite_sum}
 
 -- ---- ranges
 
@@ -53,7 +52,7 @@ at_most (Some l) = Le l
 
 -- a literal is false at the head
 abbrev pub refuted : App → Lit → Formula
-refuted head l = at_most (with_value (opposite l) (literal_sum head))
+refuted head l = at_most (opposite_sum head l)
 
 -- a literal is true at an atom
 abbrev pub granted : App → Lit → Formula

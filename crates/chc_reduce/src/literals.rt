@@ -1,46 +1,29 @@
 // Literals at the arguments of atoms.
 
-ghost use Rattle.std.specs.Prelude.{◌≡◌, ◌++◌, [], ◌+ℤ◌, IfOk, Some};
-ghost use Rattle.chc_nums.specs.Values.{with_value};
-ghost use Rattle.chc_nums.specs.Wide.{in_128};
-ghost use Rattle.chc_reduce.specs.Literals.{raised_first, put_term, raised, variable_of, terms_onto, literal_sum, opposite_terms, opposite};
+ghost use Rattle.std.specs.Prelude.{◌≡◌, ◌++◌, [], ◌-ℤ◌, pos, IfOk};
+ghost use Rattle.chc_reduce.specs.Literals.{put_term, raised, variable_of, terms_onto, narrowed_terms, narrowed, literal_sum, opposite_terms, opposite_sum};
 
 use chc_form::{App, Lin, Lit, LitTerm};
-use chc_nums::{List, NoMemory, difference, opposite as negated, sum};
+use chc_nums::{List, NoMemory, Total};
 use std::alloc::Global;
 
-// A term and then others, where the term vanishes if its coefficient is 0.
+// Terms, then one that vanishes where its coefficient is 0, and then others.
 fn finish(
-    made: List<(u32, i128)>,
+    made: List<(u32, Total)>,
     x: u32,
-    a: i128,
-    rest: &[(u32, i128)],
-) -> Result<List<(u32, i128)>, NoMemory>
+    a: Total,
+    rest: &[(u32, Total)],
+) -> Result<List<(u32, Total)>, NoMemory>
     ensures { IfOk result (λ ts. ts ≡ made ++ put_term x a rest.now) }
 {
     let mut made = made;
-    if a != 0 {
+    if !a.is_zero() {
         made.push((x, a))?;
     }
     for term in rest {
-        made.push(*term)?;
+        made.push((term.0, term.1.copy()))?;
     }
     Ok(made)
-}
-
-// The same where there is a coefficient.
-fn finish_with(
-    made: List<(u32, i128)>,
-    x: u32,
-    a: Option<i128>,
-    rest: &[(u32, i128)],
-) -> Result<Option<List<(u32, i128)>>, NoMemory>
-    ensures { IfOk result (λ o. o ≡ with_value a (λ b. Some (made ++ put_term x b rest.now))) }
-{
-    match a {
-        None => Ok(None),
-        Some(a) => Ok(Some(finish(made, x, a, rest)?)),
-    }
 }
 
 // A variable's coefficient raised, where terms stand by ascending variables.
@@ -48,46 +31,24 @@ fn finish_with(
 fn raise(
     alloc: Global,
     x: u32,
-    a: i128,
-    terms: &[(u32, i128)],
-) -> Result<Option<List<(u32, i128)>>, NoMemory>
-    ensures { IfOk result (λ o. o ≡ raised x a terms.now) }
+    a: &i128,
+    terms: &[(u32, Total)],
+) -> Result<List<(u32, Total)>, NoMemory>
+    ensures { IfOk result (λ ts. ts ≡ raised x a.now terms.now) }
 {
     let mut made = List::new(alloc);
     let mut rest = terms;
     while let [term, more @ ..] = rest {
         if x < term.0 {
-            return Ok(Some(finish(made, x, a, rest)?));
+            return finish(made, x, Total::new(*a), rest);
         }
         if x == term.0 {
-            return raise_first(made, x, a, rest);
+            return finish(made, x, term.1.plus(*a)?, more);
         }
-        made.push(*term)?;
+        made.push((term.0, term.1.copy()))?;
         rest = more;
     }
-    Ok(Some(finish(made, x, a, rest)?))
-}
-
-// A term's coefficient raised.
-fn more_of(term: &(u32, i128), a: i128) -> Option<i128>
-    ensures { result ≡ in_128 (term.now.1 +ℤ a) }
-{
-    sum(term.1, a)
-}
-
-// The same where the variable's own term is the first.
-fn raise_first(
-    made: List<(u32, i128)>,
-    x: u32,
-    a: i128,
-    terms: &[(u32, i128)],
-) -> Result<Option<List<(u32, i128)>>, NoMemory>
-    ensures { IfOk result (λ o. o ≡ raised_first made x a terms.now) }
-{
-    match terms {
-        [] => Ok(Some(finish(made, x, a, terms)?)),
-        [term, more @ ..] => finish_with(made, x, more_of(term, a), more),
-    }
+    finish(made, x, Total::new(*a), rest)
 }
 
 // The variable that is the argument of a term.
@@ -105,7 +66,7 @@ fn terms_at(
     alloc: Global,
     atom: &App,
     terms: &[(LitTerm, i128)],
-) -> Result<Option<List<(u32, i128)>>, NoMemory>
+) -> Result<Option<List<(u32, Total)>>, NoMemory>
     ensures { IfOk result (λ o. o ≡ terms_onto atom.now [] terms.now) }
 {
     let mut made = List::new(alloc);
@@ -114,61 +75,88 @@ fn terms_at(
         let Some(x) = variable_of(atom, &term.0) else {
             return Ok(None);
         };
-        let Some(next) = raise(alloc, x, term.1, made.as_slice())? else {
-            return Ok(None);
-        };
-        made = next;
+        made = raise(alloc, x, &term.1, made.as_slice())?;
         rest = more;
     }
     Ok(Some(made))
 }
 
-/// The sum of a literal at an atom's arguments; none where it speaks of a bound key or of a mapping, or leaves 128
-/// bits.
+// Terms whose coefficients have 128 bits, or none where one leaves them.
+#[tactic(auto, using(crate::proofs::Terms::narrows))]
+fn narrowed_terms(
+    alloc: Global,
+    terms: &[(u32, Total)],
+) -> Result<Option<List<(u32, i128)>>, NoMemory>
+    ensures { IfOk result (λ o. o ≡ narrowed_terms terms.now) }
+{
+    let mut made = List::new(alloc);
+    let mut rest = terms;
+    while let [term, more @ ..] = rest {
+        let Some(a) = term.1.narrow() else {
+            return Ok(None);
+        };
+        made.push((term.0, a))?;
+        rest = more;
+    }
+    Ok(Some(made))
+}
+
+fn narrowed(alloc: Global, terms: &[(u32, Total)], konst: &Total) -> Result<Option<Lin>, NoMemory>
+    ensures { IfOk result (λ o. o ≡ narrowed terms.now konst.now) }
+{
+    let Some(terms) = narrowed_terms(alloc, terms)? else {
+        return Ok(None);
+    };
+    match konst.narrow() {
+        None => Ok(None),
+        Some(konst) => Ok(Some(Lin { terms, konst })),
+    }
+}
+
+/// The sum of a literal at an atom's arguments; none where it speaks of a bound key or of a mapping, or a number of it
+/// leaves 128 bits.
 #[tactic(auto, unfolding(crate::specs::Literals::literal_sum))]
 pub fn literal_sum(alloc: Global, atom: &App, literal: &Lit) -> Result<Option<Lin>, NoMemory>
     ensures { IfOk result (λ o. o ≡ literal_sum atom.now literal.now) }
 {
     match terms_at(alloc, atom, literal.terms.as_slice())? {
         None => Ok(None),
-        Some(terms) => Ok(Some(Lin {
-            terms,
-            konst: literal.konst,
-        })),
+        Some(terms) => narrowed(alloc, terms.as_slice(), &Total::new(literal.konst)),
     }
 }
 
 // Terms with the other sign.
-#[tactic(auto, using(crate::proofs::Terms::turns))]
-fn opposite_terms(
-    alloc: Global,
-    terms: &[(LitTerm, i128)],
-) -> Result<Option<List<(LitTerm, i128)>>, NoMemory>
-    ensures { IfOk result (λ o. o ≡ opposite_terms terms.now) }
+#[tactic(auto, using(crate::proofs::Terms::narrows))]
+fn opposite_terms(alloc: Global, terms: &[(u32, Total)]) -> Result<List<(u32, Total)>, NoMemory>
+    ensures { IfOk result (λ ts. ts ≡ opposite_terms terms.now) }
 {
     let mut made = List::new(alloc);
     let mut rest = terms;
     while let [term, more @ ..] = rest {
-        let Some(b) = negated(term.1) else {
-            return Ok(None);
-        };
-        made.push((term.0.copy(alloc)?, b))?;
+        made.push((term.0, term.1.opposite()?))?;
         rest = more;
     }
-    Ok(Some(made))
+    Ok(made)
 }
 
-/// The literal that says the opposite over whole numbers, with the sum 1 - s in place of s; none where it leaves 128
-/// bits.
-#[tactic(auto, unfolding(crate::specs::Literals::opposite))]
-pub fn opposite(alloc: Global, literal: &Lit) -> Result<Option<Lit>, NoMemory>
-    ensures { IfOk result (λ o. o ≡ opposite literal.now) }
+// 1 less a number.
+fn one_less(n: i128) -> Result<Total, NoMemory>
+    ensures { IfOk result (λ t. t ≡ pos 1 -ℤ n) }
 {
-    let Some(terms) = opposite_terms(alloc, literal.terms.as_slice())? else {
-        return Ok(None);
-    };
-    match difference(1, literal.konst) {
+    Total::new(1).minus(n)
+}
+
+/// The sum that says the opposite over whole numbers, 1 - s in place of s; none where the literal speaks of a bound key
+/// or of a mapping, or a number of the sum leaves 128 bits.
+#[tactic(auto, unfolding(crate::specs::Literals::opposite_sum))]
+pub fn opposite_sum(alloc: Global, atom: &App, literal: &Lit) -> Result<Option<Lin>, NoMemory>
+    ensures { IfOk result (λ o. o ≡ opposite_sum atom.now literal.now) }
+{
+    match terms_at(alloc, atom, literal.terms.as_slice())? {
         None => Ok(None),
-        Some(konst) => Ok(Some(Lit { terms, konst })),
+        Some(terms) => {
+            let others = opposite_terms(alloc, terms.as_slice())?;
+            narrowed(alloc, others.as_slice(), &one_less(literal.konst)?)
+        }
     }
 }

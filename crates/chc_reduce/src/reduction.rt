@@ -7,7 +7,7 @@ ghost use Rattle.chc_form.specs.declared.formula.Formula.{And};
 ghost use Rattle.chc_form.specs.WellMade.{is_sort, well_made};
 ghost use Rattle.chc_reduce.specs.Reduced.{lower, upper, range_of, ranges, at_most, refuted, granted, constraint, instance_of, instances_at, instances, reduced_rule, reduced_query, reduced};
 
-use crate::literals::{literal_sum, opposite};
+use crate::literals::{literal_sum, opposite_sum};
 use chc_form::{App, Con, Formula, Lemma, Lin, Lit, Part, Query, Rule, Sort, System};
 use chc_nums::{List, NoMemory, Ty, range};
 use sqlite_items::Items;
@@ -110,10 +110,7 @@ fn at_most(alloc: Global, sum: Option<Lin>) -> Formula
 fn refuted(alloc: Global, head: &App, literal: &Lit) -> Result<Formula, NoMemory>
     ensures { IfOk result (λ f. f ≡ refuted head.now literal.now) }
 {
-    match opposite(alloc, literal)? {
-        None => Ok(at_most(alloc, None)),
-        Some(other) => Ok(at_most(alloc, literal_sum(alloc, head, &other)?)),
-    }
+    Ok(at_most(alloc, opposite_sum(alloc, head, literal)?))
 }
 
 fn granted(alloc: Global, atom: &App, literal: &Lit) -> Result<Formula, NoMemory>

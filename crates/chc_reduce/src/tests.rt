@@ -195,3 +195,65 @@ fn grounds_leave_a_place_for_the_goal(rt: HostRuntime) -> Result<(), Fail> {
     assert_eq!(rt; rows.len(), 1);
     Ok(())
 }
+
+// A literal that names the argument once for each factor.
+fn repeated(alloc: Global, factors: &[i128], konst: i128) -> Result<Lemma, NoMemory> {
+    let mut terms = List::new(alloc);
+    for factor in factors {
+        terms.push((LitTerm::Arg(0), *factor))?;
+    }
+    let mut lits = List::new(alloc);
+    lits.push(Lit { terms, konst })?;
+    Ok(Lemma {
+        pred: 0,
+        keys: List::new(alloc),
+        lits,
+    })
+}
+
+#[test]
+fn sums_are_judged_when_they_are_finished(rt: HostRuntime) -> Result<(), Fail> {
+    let alloc = rt.alloc();
+    let s = system(alloc)?;
+    if !chc_form::well_made(&s) {
+        assert!(rt; false, "the system is well made");
+        return Ok(());
+    }
+    let mut lemmas = Vec::new(alloc);
+    lemmas.push(repeated(alloc, [i128::MAX, 1, -1].as_slice(), -3)?)?;
+    lemmas.push(repeated(alloc, [i128::MAX, 1].as_slice(), -3)?)?;
+    lemmas.push(repeated(alloc, [5, -5].as_slice(), -3)?)?;
+    let f = reduce(alloc, &s, Part::Query(0), None, lemmas.as_slice())?;
+    let rows = rows(alloc, &f)?;
+    for (at, terms, konst) in [
+        (0, [(0, -1)].as_slice(), 0),
+        (1, [(0, 1)].as_slice(), -255),
+        (2, [(0, -1)].as_slice(), 11),
+        (3, [(0, i128::MAX)].as_slice(), -3),
+        (4, [].as_slice(), -3),
+    ] {
+        assert!(rt; is_row(&rows, at, terms, konst), "row {at}");
+    }
+    assert_eq!(rt; rows.len(), 5);
+    Ok(())
+}
+
+#[test]
+fn opposites_are_judged_when_they_are_finished(rt: HostRuntime) -> Result<(), Fail> {
+    let alloc = rt.alloc();
+    let s = system(alloc)?;
+    let Some(rule) = s.rules.get(0) else {
+        assert!(rt; false, "there is a rule");
+        return Ok(());
+    };
+    // 1 - (- 2^127 y + y - 2^127 + 2): the terms fit when they are summed, and so does the constant.
+    let goal = repeated(alloc, [i128::MIN, 1].as_slice(), i128::MIN + 2)?;
+    let rows = goal_rows(alloc, &rule.head, &goal)?;
+    assert!(rt; is_row(&rows, 0, [(1, i128::MAX)].as_slice(), i128::MAX));
+    assert_eq!(rt; rows.len(), 1);
+    let goal = repeated(alloc, [i128::MIN].as_slice(), 0)?;
+    assert_eq!(rt; goal_rows(alloc, &rule.head, &goal)?.len(), 0);
+    let goal = repeated(alloc, [1].as_slice(), i128::MIN + 1)?;
+    assert_eq!(rt; goal_rows(alloc, &rule.head, &goal)?.len(), 0);
+    Ok(())
+}

@@ -1,0 +1,13 @@
+-- Sums as so many times 2^64 and a number below 2^64.
+use Rattle.std.specs.Prelude.{pos, ◌+ℤ◌, ◌*ℤ◌, ◌≤ℤ◌}
+use lib.IntN.{ℤ}
+use Rattle.chc_nums.specs.declared.total.Total.TheInside.{Inside}
+
+abbrev pub half : ℤ
+half = pos 18446744073709551616
+
+abbrev pub total_of : Inside → ℤ
+total_of t = (t.high *ℤ half) +ℤ t.low
+
+abbrev pub IsTotal : Inside → Type 0
+IsTotal t = (pos 0 ≤ℤ t.low) × (t.low ≤ℤ pos 18446744073709551615)
