@@ -1,11 +1,10 @@
 -- The rows of a goal between the others.
-use Rattle.std.proofs.Common.{◌≡◌, ◌∙◌, sym, ap, subst, refl, ℕ, List, [], ◌∷◌, ◌++◌, append_assoc, map, Some, take, drop, length}
+use Rattle.std.proofs.Common.{◌≡◌, ◌∙◌, sym, ap, subst, refl, ℕ, List, [], ◌∷◌, ◌++◌, append_assoc, Some}
 use Rattle.std.proofs.Math.Seq.{take-append_seam, drop-append_seam}
 use Rattle.chc_form.specs.declared.linear.Lin.{Lin}
 use Rattle.chc_form.specs.declared.linear.Row.{Row}
 use Rattle.chc_form.specs.declared.linear.Limits.{Limits}
 use Rattle.chc_form.specs.declared.formula.Formula.{Formula}
-use Rattle.chc_form.specs.declared.system.App.{App}
 use Rattle.chc_form.specs.declared.system.System.{System}
 use Rattle.chc_form.specs.declared.system.Part.TheVariants as part
 use Rattle.chc_form.specs.declared.lemma.Lemma.{Lemma}

@@ -1,6 +1,5 @@
 -- Zeros: how many there are, and what stands at a place.
-use Rattle.std.proofs.Common.{◌≡◌, ap, refl, ℕ, zero, suc, ◌+◌, List, [], ◌∷◌, ◌++◌, length, pos, arith}
-use lib.IntN.{ℤ}
+use Rattle.std.proofs.Common.{◌≡◌, ap, refl, ℕ, zero, suc, length, pos}
 use Rattle.chc_simplex.specs.Rounds.{number_at}
 use Rattle.chc_simplex.specs.Endings.{zeros}
 

@@ -11,7 +11,7 @@ use Rattle.chc_form.specs.declared.Sort.{Sort}
 use Rattle.chc_form.specs.declared.Sort.TheVariants as sort
 use Rattle.chc_form.specs.Valuations.{Valuation, HasSort, HasSorts}
 use Rattle.chc_form.specs.Constraints.{ConsAt}
-use Rattle.chc_form.proofs.Entries.{contains-first, contains-later}
+use Rattle.chc_form.proofs.Entries.{contains-later}
 use Rattle.sol_first.specs.declared.Variable.{Variable}
 use Rattle.sol_first.specs.Typed.{size_at}
 use Rattle.chc_encode.specs.PathRows.{sorts_of, now_at, entry}

@@ -1,5 +1,5 @@
 -- What a test that passes says: of both sides, of each entry, of a place.
-use Rattle.std.proofs.Common.{◌≡◌, refl, ℕ, suc, ap, ◌<◌, List, [], ◌∷◌, length, Bool, true, false, ◌&&◌, inl, inr}
+use Rattle.std.proofs.Common.{◌≡◌, refl, ℕ, suc, ap, ◌<◌, List, [], ◌∷◌, length, Bool, true, false, inl, inr}
 use Rattle.std.specs.Prelude.{Option, Some, None, slice_get}
 use Rattle.std.specs.List.{list_all, Contains}
 use Rattle.std.proofs.lemmas.List.Elements.{All-contains}

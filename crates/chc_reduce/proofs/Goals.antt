@@ -1,11 +1,10 @@
 -- A rule's formula falls into what comes before its goal, its goal and what comes after it.
-use Rattle.std.proofs.Common.{◌≡◌, ◌∙◌, sym, ap, subst, refl, ℕ, suc, ◌<◌, List, [], ◌∷◌, ◌++◌, append_assoc, Bool, true, ◌&&◌, map, Option, Some, None, slice_get, length}
+use Rattle.std.proofs.Common.{◌≡◌, ◌∙◌, sym, ap, subst, refl, ℕ, suc, ◌<◌, List, [], ◌∷◌, ◌++◌, append_assoc, true, map, Option, Some, None, slice_get, length}
 use Rattle.std.specs.Prelude.{slice_index_or}
 use Rattle.std.specs.List.{list_all}
-use Rattle.std.proofs.lemmas.List.Folds.{list_all-append}
 use Rattle.std.proofs.lemmas.Option.{slice_get_read}
 use Rattle.chc_form.specs.declared.linear.Lin.{Lin}
-use Rattle.chc_form.specs.declared.formula.Formula.{Formula, Le, And, Or}
+use Rattle.chc_form.specs.declared.formula.Formula.{Formula, Le, And}
 use Rattle.chc_form.specs.declared.system.Sort.{Sort}
 use Rattle.chc_form.specs.declared.system.Sort.TheVariants as sort
 use Rattle.chc_form.specs.declared.system.App.{App}
@@ -24,7 +23,7 @@ use Rattle.chc_reduce.specs.Rows.{joined, rows_of, is_plain, branch_of}
 use Rattle.chc_reduce.specs.Grounds.{goal_part, ranges_part, grounds_part, AreMadeOf, AreGrounds, InOrder}
 use Rattle.chc_reduce.proofs.Shapes.{rows_of-And, is_plain-Le, is_plain-And, branch_of-Le, branch_of-And}
 use Rattle.chc_reduce.proofs.Sorts.{got_rule}
-use Rattle.chc_reduce.proofs.Ordered.{and-ordered, ordered-append, ranges-ordered, refuted-ordered, constraints-ordered, instances-ordered}
+use Rattle.chc_reduce.proofs.Ordered.{and-ordered, ordered-append, ranges-ordered, constraints-ordered, instances-ordered}
 
 joined-append : {B : Type 0} (f : Formula → List B) (fs gs : List Formula) → joined (map f (fs ++ gs)) ≡ joined (map f fs) ++ joined (map f gs)
 joined-append f [] gs = refl

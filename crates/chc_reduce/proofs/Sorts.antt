@@ -1,5 +1,5 @@
 -- The sorts of variables in a well-made system, and turns of the loop over them.
-use Rattle.std.proofs.Common.{◌≡◌, sym, subst, refl, ℕ, ◌+◌, suc, List, [], ◌∷◌, ◌++◌, true, Some, slice_get, arith, append_assoc}
+use Rattle.std.proofs.Common.{◌≡◌, sym, ℕ, ◌+◌, suc, List, [], ◌∷◌, ◌++◌, true, Some, slice_get, arith, append_assoc}
 use Rattle.std.specs.List.{list_all, Contains}
 use Rattle.std.proofs.lemmas.Bool.{and_parts}
 use Rattle.chc_nums.specs.declared.Ty.{Ty}

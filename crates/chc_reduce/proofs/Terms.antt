@@ -1,5 +1,5 @@
 -- Turns of the loops over terms.
-use Rattle.std.proofs.Common.{◌≡◌, ◌∙◌, sym, ap, refl, ℕ, ◌-◌, ◌≤◌, ◌<◌, ◌≢◌, ◌==◌, length, get_or, take, drop, Result, Ok, Err, IfOk, List, [], ◌∷◌, ◌++◌, Option, Some, None, arith, append_assoc, append-nil, true, false, pos, neg_ℤ}
+use Rattle.std.proofs.Common.{◌≡◌, ◌∙◌, sym, ap, refl, ℕ, ◌-◌, ◌≤◌, ◌<◌, ◌≢◌, ◌==◌, length, get_or, take, drop, Result, Ok, Err, IfOk, List, [], ◌∷◌, ◌++◌, Option, Some, None, arith, append_assoc, append-nil, true, false, neg_ℤ}
 use lib.IntN.{ℤ}
 use Rattle.std.specs.Prelude.{nat_lt, ◌+ℤ◌}
 use Rattle.std.proofs.lemmas.Bool.Decides.{nat_tests}

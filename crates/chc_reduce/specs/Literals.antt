@@ -1,6 +1,6 @@
 -- The literals of lemmas at the arguments of atoms, as sums over the variables of a rule or query. Sums are exact: whether a
 -- number leaves 128 bits is judged on the finished inequality.
-use Rattle.std.specs.Prelude.{ℕ, ◌==◌, nat_lt, List, [], ◌∷◌, ◌++◌, Option, Some, None, pos, ◌+ℤ◌, ◌-ℤ◌, neg_ℤ, if◌then◌else◌, slice_get}
+use Rattle.std.specs.Prelude.{ℕ, ◌==◌, nat_lt, List, [], ◌∷◌, Option, Some, None, pos, ◌+ℤ◌, ◌-ℤ◌, neg_ℤ, if◌then◌else◌, slice_get}
 use lib.IntN.{ℤ}
 use Rattle.std.specs.Ordering.{int_eq}
 use Rattle.chc_nums.specs.Wide.{in_128}

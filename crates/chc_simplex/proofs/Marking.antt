@@ -1,5 +1,5 @@
 -- Marks of lines, as lines are put.
-use Rattle.std.proofs.Common.{◌≡◌, ◌∙◌, sym, ap, refl, ℕ, zero, suc, ◌+◌, List, [], ◌∷◌, Bool, true, false, Option, Some, None, arith, if◌then◌else◌}
+use Rattle.std.proofs.Common.{◌≡◌, ◌∙◌, sym, ap, refl, ℕ, zero, suc, ◌+◌, List, [], ◌∷◌, Bool, Option, Some, arith, if◌then◌else◌}
 use Rattle.std.specs.Prelude.{slice_set}
 use lib.IntN.{ℤ}
 use Rattle.chc_nums.specs.Values.{with_value}

@@ -1,5 +1,5 @@
 -- What a sized form has: sized parts.
-use Rattle.std.proofs.Common.{◌≡◌, ◌∙◌, sym, ap, refl, ℕ, zero, suc, Bool, true, false, ◌&&◌, List, [], ◌∷◌, Some, slice_get, nat_le, arith}
+use Rattle.std.proofs.Common.{◌≡◌, ◌∙◌, sym, ap, ℕ, zero, suc, Bool, true, ◌&&◌, List, [], ◌∷◌, Some, slice_get, nat_le, arith}
 use Rattle.std.specs.List.{list_all}
 use lib.IntN.{ℤ}
 use Rattle.std.proofs.lemmas.Bool.Decides.{nat_tests}

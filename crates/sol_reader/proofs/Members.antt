@@ -1,25 +1,21 @@
 -- The members of a contract are read exactly where they are its variables and functions.
 use Rattle.std.specs.Prelude.{is_none}
-use Rattle.std.proofs.Common.{◌≡◌, ◌∙◌, sym, ap, subst, refl, ℕ, zero, suc, ◌+◌, ◌≤◌, List, [], ◌∷◌, ◌++◌, length, take, drop, leb, Bool, true, false, cond, ◌==◌, ◌&&◌, Option, Some, None, arith, append_assoc, append-nil}
+use Rattle.std.proofs.Common.{◌≡◌, ◌∙◌, sym, ap, subst, refl, ℕ, suc, ◌≤◌, List, [], ◌∷◌, ◌++◌, length, take, drop, leb, Bool, true, false, cond, ◌==◌, ◌&&◌, Option, Some, None, arith, append_assoc, append-nil}
 use Rattle.std.proofs.Math.Seq.{take-append_seam, drop-append_seam}
 use Rattle.std.proofs.lemmas.Bool.Decides.{nat_tests}
 use Rattle.std.proofs.lemmas.List.{take-append-drop}
-use Rattle.chc_nums.specs.declared.typed.Ty.{Ty}
 use Rattle.chc_nums.specs.declared.typed.Ty.TheVariants as ty
-use Rattle.chc_nums.specs.Values.{with_value}
 use Rattle.sol_tree.specs.declared.expr.Initial.{Initial}
 use Rattle.sol_tree.specs.declared.types.Identifier.{Identifier}
 use Rattle.sol_tree.specs.declared.types.Type as types
 use Rattle.sol_tree.specs.declared.types.Type.TheOpen.{Type-F}
 use Rattle.sol_tree.specs.declared.types.Type.TheVariants as type_tree
-use Rattle.sol_tree.specs.declared.stmt.Stmt.{Stmt}
 use Rattle.sol_tree.specs.declared.stmt.Block.{Block}
 use Rattle.sol_tree.specs.declared.file.Base.{Base}
 use Rattle.sol_tree.specs.declared.file.Var.{Var}
 use Rattle.sol_tree.specs.declared.file.VarMark.{VarMark}
 use Rattle.sol_tree.specs.declared.file.FunMark.{FunMark}
 use Rattle.sol_tree.specs.declared.file.FunMark.TheVariants as mark
-use Rattle.sol_tree.specs.declared.file.Param.{Param}
 use Rattle.sol_tree.specs.declared.file.Fun.{Fun}
 use Rattle.sol_tree.specs.declared.file.Member.{Member}
 use Rattle.sol_tree.specs.declared.file.Member.TheVariants as member
@@ -31,7 +27,7 @@ use Rattle.sol_first.specs.declared.contract.Function.{Function}
 use Rattle.sol_first.specs.declared.contract.Contract.{Contract}
 use Rattle.sol_first.specs.declared.contract.Step.{Step}
 use Rattle.sol_reader.specs.Language.{IsStep, Pairs, none, more, IsVariable, declared, IsFunction, defined, IsFileOf, contract, Differ, variable_names}
-use Rattle.sol_reader.specs.Reading.{all_onto, size_in, size_of, is_bare, var_of, variable_in, is_public, is_open, body_in, fun_of, function_in, leading, with_functions, members_of, unit_of, units_of, step_of}
+use Rattle.sol_reader.specs.Reading.{all_onto, size_in, size_of, is_bare, var_of, variable_in, is_public, is_open, body_in, fun_of, function_in, leading, members_of, unit_of, units_of, step_of}
 use Rattle.sol_reader.proofs.Steps.{some-is, bind, step-sound, step-complete}
 
 if-some : {A : Type 0} (P : Type 0) (t : Bool) (o : Option A) (z : A) → cond t o None ≡ Some z → (t ≡ true → o ≡ Some z → P) → P

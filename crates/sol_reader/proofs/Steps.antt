@@ -1,5 +1,5 @@
 -- A statement is read as a step exactly where it is that step.
-use Rattle.std.proofs.Common.{◌≡◌, ◌∙◌, sym, ap, subst, refl, ℕ, zero, suc, List, [], ◌∷◌, Bool, Option, Some, None, slice_get}
+use Rattle.std.proofs.Common.{◌≡◌, ◌∙◌, sym, ap, subst, refl, ℕ, List, Option, Some, None}
 use lib.IntN.{ℤ}
 use Rattle.sol_tree.specs.declared.expr.BinaryOp.{BinaryOp}
 use Rattle.sol_tree.specs.declared.expr.BinaryOp.TheVariants as operator
@@ -20,7 +20,7 @@ use Rattle.sol_first.specs.declared.contract.Step.TheVariants as step
 use Rattle.sol_reader.specs.declared.step.Test.{Test}
 use Rattle.sol_reader.specs.Places.{line_of, column_of}
 use Rattle.sol_reader.specs.Language.{IsNamed, named, IsNumber, number, operator_of, IsTest, compared, IsStep, required, asserted, put, moved, added, subtracted, Differ, variable_names}
-use Rattle.sol_reader.specs.Reading.{if_value, place_from, named_in, variable_of, number_in, number_of, order_of, test_in, test_of, changed, change_in, change_of, value_of, assignment_of, step_in, step_of}
+use Rattle.sol_reader.specs.Reading.{if_value, named_in, variable_of, number_in, number_of, order_of, test_in, test_of, changed, change_in, change_of, value_of, assignment_of, step_in, step_of}
 use Rattle.sol_reader.proofs.Names.{place-sound, place-complete}
 use Rattle.chc_nums.specs.Values.{with_value}
 
