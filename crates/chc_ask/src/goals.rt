@@ -3,22 +3,22 @@
 ghost use Rattle.std.specs.Prelude.{◌≡◌, ◌++◌, IfOk};
 ghost use Rattle.chc_form.specs.Linear.{AllAscend, lins};
 ghost use Rattle.chc_simplex.specs.TableauRun.{tableau_run};
-ghost use Rattle.chc_reduce.specs.Grounds.{InOrder};
+ghost use Rattle.chc_reduce.specs.Premises.{InOrder};
 ghost use Rattle.chc_ask.specs.Goals.{AnswersGoal};
 
 use crate::asking::{answered, run};
 use crate::open::Asked;
 use chc_form::{Lemma, Limits, Row};
 use chc_nums::{List, NoMemory};
-use chc_reduce::{Grounds, goal_rows};
+use chc_reduce::{Premises, goal_rows};
 use chc_simplex::Lp;
 use std::alloc::Global;
 
-/// What is said of a goal, and the grounds that it was asked on, for the next one.
+/// What is said of a goal, and the premises that it was asked on, for the next one.
 #[derive(Drop)]
 pub struct Answer {
     pub asked: Asked,
-    pub grounds: Grounds,
+    pub premises: Premises,
 }
 
 // The run on rows between others, and these others.
@@ -59,35 +59,35 @@ fn run_between(
     })
 }
 
-/// Whether a lemma is true at the head of a rule under lemmas whose grounds these are: the same as `ask` says of it.
+/// Whether a lemma is true at the head of a rule under lemmas whose premises these are: the same as `ask` says of it.
 /// `NoMemory` also stands for 2^31 rows and for 2^32 variables.
 #[tactic(auto, using(crate::proofs::Between::goals))]
 pub fn ask_goal(
     alloc: Global,
-    grounds: Grounds,
+    premises: Premises,
     goal: &Lemma,
     limits: Limits,
 ) -> Result<Answer, NoMemory>
-    requires { InOrder grounds }
-    ensures answer { IfOk result (λ a. AnswersGoal limits goal.now grounds a.asked) }
-    ensures same { IfOk result (λ a. a.grounds ≡ grounds) }
+    requires { InOrder premises }
+    ensures answer { IfOk result (λ a. AnswersGoal limits goal.now premises a.asked) }
+    ensures same { IfOk result (λ a. a.premises ≡ premises) }
 {
-    let Grounds {
+    let Premises {
         head,
         before,
         after,
         branch,
         plain,
-    } = grounds;
+    } = premises;
     let rows = goal_rows(alloc, &head, goal)?;
     let Between { lp, before, after } = run_between(alloc, before, rows, after, limits.pivots)?;
     let asked = answered(plain, branch.copy(alloc)?, lp);
-    let grounds = Grounds {
+    let premises = Premises {
         head,
         before,
         after,
         branch,
         plain,
     };
-    Ok(Answer { asked, grounds })
+    Ok(Answer { asked, premises })
 }

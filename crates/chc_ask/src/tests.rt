@@ -5,7 +5,7 @@ use chc_form::{
     App, Con, Lemma, Limits, Lin, Lit, LitTerm, Part, Query, Rule, Sort, System, well_made,
 };
 use chc_nums::{List, NoMemory, Ty};
-use chc_reduce::Grounds;
+use chc_reduce::Premises;
 use std::alloc::Global;
 use std::test::Fail;
 
@@ -201,12 +201,12 @@ fn goals_are_asked_in_turn(rt: HostRuntime) -> Result<(), Fail> {
     }
     let mut lemmas = Vec::new(alloc);
     lemmas.push(lemma(alloc, -9)?)?;
-    let grounds = Grounds::new(alloc, &s, 0, lemmas.as_slice())?;
-    let Answer { asked, grounds } = ask_goal(alloc, grounds, &lemma(alloc, -9)?, LIMITS)?;
+    let premises = Premises::new(alloc, &s, 0, lemmas.as_slice())?;
+    let Answer { asked, premises } = ask_goal(alloc, premises, &lemma(alloc, -9)?, LIMITS)?;
     assert!(rt; is_point(&Some(asked), [0u32].as_slice(), [9, 10].as_slice()));
-    let Answer { asked, grounds } = ask_goal(alloc, grounds, &lemma(alloc, -10)?, LIMITS)?;
+    let Answer { asked, premises } = ask_goal(alloc, premises, &lemma(alloc, -10)?, LIMITS)?;
     assert!(rt; is_refuted(&Some(asked), [0, 0, 0, 0, 1, 1, 0, 1, 0].as_slice()));
-    let Answer { asked, .. } = ask_goal(alloc, grounds, &lemma(alloc, -9)?, LIMITS)?;
+    let Answer { asked, .. } = ask_goal(alloc, premises, &lemma(alloc, -9)?, LIMITS)?;
     assert!(rt; is_point(&Some(asked), [0u32].as_slice(), [9, 10].as_slice()));
     Ok(())
 }

@@ -1,4 +1,4 @@
 pub mod Drops
 pub mod Proofs
 pub mod Rounds
-pub mod Standing
+pub mod Candidates

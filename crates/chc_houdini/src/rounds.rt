@@ -5,16 +5,16 @@ ghost use Rattle.std.specs.Prelude.{◌≡◌, ◌==◌, ◌++◌, ℕ, List, tr
 ghost use Rattle.chc_form.specs.declared.system.System.{System};
 ghost use Rattle.chc_form.specs.declared.lemma.Lemma.{Lemma};
 ghost use Rattle.chc_form.specs.WellMade.{well_made};
-ghost use Rattle.chc_reduce.specs.Grounds.{AreGrounds, InOrder};
+ghost use Rattle.chc_reduce.specs.Premises.{ArePremises, InOrder};
 ghost use Rattle.chc_houdini.specs.Drops.{is_named, left_in};
 ghost use Rattle.chc_houdini.specs.Rounds.{noted, no_round, round_of};
-ghost use Rattle.chc_houdini.specs.Standing.{standing_from, taken, turned, judged_by, gathered};
+ghost use Rattle.chc_houdini.specs.Candidates.{candidates_from, taken, turned, judged_by, gathered};
 
 use crate::greatest::RoundStop;
 use chc_ask::{Answer, Asked, Open, ask_goal};
 use chc_form::{Lemma, Limits, Rule, System};
 use chc_nums::{List, NoMemory};
-use chc_reduce::Grounds;
+use chc_reduce::Premises;
 use std::alloc::Global;
 
 // What asking rule by rule says of a candidate: multipliers for each rule on its predicate, or the first that stays open.
@@ -26,17 +26,17 @@ pub enum Judged {
 
 // A candidate of a round, by its number, and what the rules that were asked so far say of it.
 #[derive(Drop)]
-pub struct Standing {
+pub struct Candidate {
     number: u32,
     lemma: Lemma,
     judged: Judged,
 }
 
-// A candidate after one rule more, and the rule's grounds for the next one.
+// A candidate after one rule more, and the rule's premises for the next one.
 #[derive(Drop)]
 struct Turn {
-    standing: Standing,
-    grounds: Grounds,
+    candidate: Candidate,
+    premises: Premises,
 }
 
 // The drops of a round, and multipliers for the candidates after the last of them.
@@ -96,20 +96,20 @@ pub fn lemmas_left(
 }
 
 // The same candidates with their numbers, of which nothing is said yet.
-fn standing_in(
+fn candidates_in(
     alloc: Global,
     drops: &[RoundStop],
     round: u32,
     from: &[Lemma],
-) -> Result<List<Standing>, NoMemory>
-    ensures { IfOk result (λ list. list ≡ standing_from drops.now round 0 from.now) }
+) -> Result<List<Candidate>, NoMemory>
+    ensures { IfOk result (λ list. list ≡ candidates_from drops.now round 0 from.now) }
 {
-    let mut standing = List::new(alloc);
+    let mut candidates = List::new(alloc);
     let mut number = 0u32;
     let mut rest = from;
     while let [lemma, more @ ..] = rest {
         if !is_named(drops, round, number) {
-            standing.push(Standing {
+            candidates.push(Candidate {
                 number,
                 lemma: lemma.copy(alloc)?,
                 judged: Judged::Shown(List::new(alloc)),
@@ -118,7 +118,7 @@ fn standing_in(
         number = next(number)?;
         rest = more;
     }
-    Ok(standing)
+    Ok(candidates)
 }
 
 // ---- judging
@@ -142,47 +142,47 @@ fn turned(
     limits: Limits,
     j: u32,
     rule: &Rule,
-    standing: Standing,
-    grounds: Grounds,
+    candidate: Candidate,
+    premises: Premises,
 ) -> Result<Turn, NoMemory>
-    requires { InOrder grounds }
-    ensures said { IfOk result (λ t. (s : System) (have : List Lemma) → AreGrounds s j have grounds → t.standing ≡ turned s limits have j rule.now standing) }
-    ensures same { IfOk result (λ t. t.grounds ≡ grounds) }
+    requires { InOrder premises }
+    ensures said { IfOk result (λ t. (s : System) (have : List Lemma) → ArePremises s j have premises → t.candidate ≡ turned s limits have j rule.now candidate) }
+    ensures same { IfOk result (λ t. t.premises ≡ premises) }
 {
-    let Standing {
+    let Candidate {
         number,
         lemma,
         judged,
-    } = standing;
+    } = candidate;
     match judged {
         Judged::Stopped(at, left) => Ok(Turn {
-            standing: Standing {
+            candidate: Candidate {
                 number,
                 lemma,
                 judged: Judged::Stopped(at, left),
             },
-            grounds,
+            premises,
         }),
         Judged::Shown(made) => {
             if rule.head.pred != lemma.pred {
                 return Ok(Turn {
-                    standing: Standing {
+                    candidate: Candidate {
                         number,
                         lemma,
                         judged: Judged::Shown(made),
                     },
-                    grounds,
+                    premises,
                 });
             }
-            let Answer { asked, grounds } = ask_goal(alloc, grounds, &lemma, limits)?;
+            let Answer { asked, premises } = ask_goal(alloc, premises, &lemma, limits)?;
             let judged = taken(j, made, asked)?;
             Ok(Turn {
-                standing: Standing {
+                candidate: Candidate {
                     number,
                     lemma,
                     judged,
                 },
-                grounds,
+                premises,
             })
         }
     }
@@ -197,18 +197,18 @@ fn judged_at(
     have: &[Lemma],
     j: u32,
     rule: &Rule,
-    standing: List<Standing>,
-) -> Result<List<Standing>, NoMemory>
+    candidates: List<Candidate>,
+) -> Result<List<Candidate>, NoMemory>
     requires made { well_made s.now ≡ true }
     requires there { slice_get s.now.rules j ≡ Some rule.now }
-    ensures { IfOk result (λ list. list ≡ map (turned s.now limits have.now j rule.now) standing) }
+    ensures { IfOk result (λ list. list ≡ map (turned s.now limits have.now j rule.now) candidates) }
 {
-    let mut grounds = Grounds::new(alloc, s, j, have)?;
+    let mut premises = Premises::new(alloc, s, j, have)?;
     let mut made = List::new(alloc);
-    for one in standing.into_vec() {
-        let turn = turned(alloc, limits, j, rule, one, grounds)?;
-        made.push(turn.standing)?;
-        grounds = turn.grounds;
+    for candidate in candidates.into_vec() {
+        let turn = turned(alloc, limits, j, rule, candidate, premises)?;
+        made.push(turn.candidate)?;
+        premises = turn.premises;
     }
     Ok(made)
 }
@@ -220,20 +220,20 @@ fn judged_by(
     s: &System,
     limits: Limits,
     have: &[Lemma],
-    standing: List<Standing>,
-) -> Result<List<Standing>, NoMemory>
+    candidates: List<Candidate>,
+) -> Result<List<Candidate>, NoMemory>
     requires { well_made s.now ≡ true }
-    ensures { IfOk result (λ list. list ≡ judged_by s.now limits have.now 0 s.now.rules standing) }
+    ensures { IfOk result (λ list. list ≡ judged_by s.now limits have.now 0 s.now.rules candidates) }
 {
-    let mut standing = standing;
+    let mut candidates = candidates;
     let mut j = 0u32;
     let mut rest = s.rules.as_slice();
     while let [rule, more @ ..] = rest {
-        standing = judged_at(alloc, s, limits, have, j, rule, standing)?;
+        candidates = judged_at(alloc, s, limits, have, j, rule, candidates)?;
         j = next(j)?;
         rest = more;
     }
-    Ok(standing)
+    Ok(candidates)
 }
 
 fn note(
@@ -269,15 +269,15 @@ fn note(
 
 // The drops of a round, and the multipliers.
 #[tactic(auto, using(crate::proofs::Judging::gathers))]
-fn gathered(alloc: Global, round: u32, standing: List<Standing>) -> Result<Round, NoMemory>
-    ensures { IfOk result (λ r. r ≡ gathered round no_round standing) }
+fn gathered(alloc: Global, round: u32, candidates: List<Candidate>) -> Result<Round, NoMemory>
+    ensures { IfOk result (λ r. r ≡ gathered round no_round candidates) }
 {
     let mut so_far = Round {
         drops: List::new(alloc),
         proofs: List::new(alloc),
     };
-    for one in standing.into_vec() {
-        so_far = note(alloc, round, one.number, so_far, one.judged)?;
+    for candidate in candidates.into_vec() {
+        so_far = note(alloc, round, candidate.number, so_far, candidate.judged)?;
     }
     Ok(so_far)
 }
@@ -295,7 +295,7 @@ pub fn round_of(
     requires { well_made s.now ≡ true }
     ensures { IfOk result (λ r. r ≡ round_of s.now limits have.now earlier.now round from.now) }
 {
-    let standing = standing_in(alloc, earlier, round, from)?;
-    let judged = judged_by(alloc, s, limits, have, standing)?;
+    let candidates = candidates_in(alloc, earlier, round, from)?;
+    let judged = judged_by(alloc, s, limits, have, candidates)?;
     gathered(alloc, round, judged)
 }

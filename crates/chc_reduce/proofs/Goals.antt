@@ -16,11 +16,11 @@ use Rattle.chc_form.specs.Linear.{AllAscend, lins}
 use Rattle.chc_form.specs.WellMade.{well_made}
 use Rattle.chc_form.proofs.Orders.{rule-ascends}
 use Rattle.chc_form.proofs.Entries.{got-contained}
-use Rattle.chc_reduce.specs.declared.grounds.Grounds.{Grounds}
+use Rattle.chc_reduce.specs.declared.premises.Premises.{Premises}
 use Rattle.chc_reduce.specs.Literals.{opposite_sum}
 use Rattle.chc_reduce.specs.Reduced.{lower, upper, ranges, at_most, refuted, constraint, instances, reduced_rule, reduced_rule_at}
 use Rattle.chc_reduce.specs.Rows.{joined, rows_of, is_plain, branch_of}
-use Rattle.chc_reduce.specs.Grounds.{goal_part, ranges_part, grounds_part, AreMadeOf, AreGrounds, InOrder}
+use Rattle.chc_reduce.specs.Premises.{goal_part, ranges_part, premises_part, AreMadeOf, ArePremises, InOrder}
 use Rattle.chc_reduce.proofs.Shapes.{rows_of-And, is_plain-Le, is_plain-And, branch_of-Le, branch_of-And}
 use Rattle.chc_reduce.proofs.Sorts.{got_rule}
 use Rattle.chc_reduce.proofs.Ordered.{and-ordered, ordered-append, ranges-ordered, constraints-ordered, instances-ordered}
@@ -31,7 +31,7 @@ joined-append f (h ∷ fs) gs = ap (λ (xs : List _). f h ++ xs) (joined-append 
 
 -- ---- rows
 
-rows-split : (r : Rule) (goal : Lemma) (ls : List Lemma) → rows_of (reduced_rule r (Some goal) ls) ≡ rows_of (ranges_part r) ++ (rows_of (goal_part r.head goal) ++ rows_of (grounds_part r ls))
+rows-split : (r : Rule) (goal : Lemma) (ls : List Lemma) → rows_of (reduced_rule r (Some goal) ls) ≡ rows_of (ranges_part r) ++ (rows_of (goal_part r.head goal) ++ rows_of (premises_part r ls))
 unfolding reduced_rule
 rows-split r goal ls =
     let rs : List Formula = ranges 0 r.vars in
@@ -75,7 +75,7 @@ plain-past : (fs gs : List Formula) → AllPlain fs → list_all (λ b. b) (map 
 plain-past [] gs h = refl
 plain-past (f ∷ fs) gs h = rw h.1 (plain-past fs gs h.2)
 
-branch-same : (r : Rule) (goal : Lemma) (ls : List Lemma) → branch_of (reduced_rule r (Some goal) ls) ≡ branch_of (grounds_part r ls)
+branch-same : (r : Rule) (goal : Lemma) (ls : List Lemma) → branch_of (reduced_rule r (Some goal) ls) ≡ branch_of (premises_part r ls)
 unfolding reduced_rule
 branch-same r goal ls =
     let rs : List Formula = ranges 0 r.vars in
@@ -83,7 +83,7 @@ branch-same r goal ls =
     let cs : List Formula = map constraint r.cons ++ instances r.body ls in
     branch_of-And (rs ++ (gs ++ cs)) ∙ branch-past rs (gs ++ cs) (ranges-plain 0 r.vars) ∙ branch-past gs cs (refuted-plain r.head goal.lits) ∙ sym (branch_of-And cs)
 
-plain-same : (r : Rule) (goal : Lemma) (ls : List Lemma) → is_plain (reduced_rule r (Some goal) ls) ≡ is_plain (grounds_part r ls)
+plain-same : (r : Rule) (goal : Lemma) (ls : List Lemma) → is_plain (reduced_rule r (Some goal) ls) ≡ is_plain (premises_part r ls)
 unfolding reduced_rule
 plain-same r goal ls =
     let rs : List Formula = ranges 0 r.vars in
@@ -91,20 +91,20 @@ plain-same r goal ls =
     let cs : List Formula = map constraint r.cons ++ instances r.body ls in
     is_plain-And (rs ++ (gs ++ cs)) ∙ plain-past rs (gs ++ cs) (ranges-plain 0 r.vars) ∙ plain-past gs cs (refuted-plain r.head goal.lits) ∙ sym (is_plain-And cs)
 
--- ---- grounds
+-- ---- premises
 
-rows-around : (r : Rule) (goal : Lemma) (ls : List Lemma) (g : Grounds) → AreMadeOf r ls g → rows_of (ranges_part r) ++ (rows_of (goal_part r.head goal) ++ rows_of (grounds_part r ls)) ≡ lins g.before ++ (rows_of (goal_part g.head goal) ++ lins g.after)
+rows-around : (r : Rule) (goal : Lemma) (ls : List Lemma) (g : Premises) → AreMadeOf r ls g → rows_of (ranges_part r) ++ (rows_of (goal_part r.head goal) ++ rows_of (premises_part r ls)) ≡ lins g.before ++ (rows_of (goal_part g.head goal) ++ lins g.after)
 rows-around r goal ls g h = rw (h.before, h.head, h.after) refl
 
-pub grounds-are : (s : System) (i : ℕ) (r : Rule) (ls : List Lemma) (g : Grounds) → slice_get s.rules i ≡ Some r → AreMadeOf r ls g → AreGrounds s i ls g
-grounds-are s i r ls g e h = record {
+pub premises-are : (s : System) (i : ℕ) (r : Rule) (ls : List Lemma) (g : Premises) → slice_get s.rules i ≡ Some r → AreMadeOf r ls g → ArePremises s i ls g
+premises-are s i r ls g e h = record {
   rows = λ goal. ap (λ (o : Option Rule). rows_of (reduced_rule_at o (Some goal) ls)) e ∙ rows-split r goal ls ∙ rows-around r goal ls g h;
   branch = λ goal. ap (λ (o : Option Rule). branch_of (reduced_rule_at o (Some goal) ls)) e ∙ branch-same r goal ls ∙ sym h.branch;
   plain = λ goal. ap (λ (o : Option Rule). is_plain (reduced_rule_at o (Some goal) ls)) e ∙ plain-same r goal ls ∙ sym h.plain;
 }
 
-pub grounds-ordered : (s : System) (i : ℕ) (r : Rule) (ls : List Lemma) (g : Grounds) → well_made s ≡ true → slice_get s.rules i ≡ Some r → AreMadeOf r ls g → InOrder g
-grounds-ordered s i r ls g w e h = record {
+pub premises-ordered : (s : System) (i : ℕ) (r : Rule) (ls : List Lemma) (g : Premises) → well_made s ≡ true → slice_get s.rules i ≡ Some r → AreMadeOf r ls g → InOrder g
+premises-ordered s i r ls g w e h = record {
   before = subst AllAscend (sym h.before) (and-ordered (ranges 0 r.vars) (ranges-ordered 0 r.vars));
   after = subst AllAscend (sym h.after) (and-ordered (map constraint r.cons ++ instances r.body ls) (ordered-append (map constraint r.cons) (instances r.body ls) (constraints-ordered r.cons (λ c j. rule-ascends s r c w (got-contained s.rules i r e) j)) (instances-ordered r.body ls)));
 }
@@ -113,4 +113,4 @@ grounds-ordered s i r ls g w e h = record {
 pub read-rule : (s : System) (i : ℕ) (r : Rule) → i < length s.rules → r ≡ slice_index_or s.rules i r → slice_get s.rules i ≡ Some r
 read-rule s i r h e = slice_get_read s.rules (length s.rules) i r refl h e
 
-pub ruleset grounds = (grounds-are, grounds-ordered, read-rule, got_rule)
+pub ruleset premises = (premises-are, premises-ordered, read-rule, got_rule)

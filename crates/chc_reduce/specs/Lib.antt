@@ -2,4 +2,4 @@ pub mod Literals
 pub mod Obligations
 pub mod Reduced
 pub mod Rows
-pub mod Grounds
+pub mod Premises

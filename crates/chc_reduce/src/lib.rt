@@ -3,15 +3,15 @@
 //! rows say of it is `rows_law`.
 #![tactic(auto)]
 
-mod grounds;
 mod laws;
 mod literals;
+mod premises;
 mod reduction;
 mod shape;
 #[cfg(test)]
 mod tests;
 
-pub use grounds::{Grounds, goal_rows};
 pub use laws::{order_law, reduction_law, rows_law};
+pub use premises::{Premises, goal_rows};
 pub use reduction::reduce;
 pub use shape::{branch, is_plain, rows};

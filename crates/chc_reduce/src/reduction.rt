@@ -222,7 +222,7 @@ fn add_instances(
 // ---- the whole
 
 // What constraints and the lemmas of the body's atoms say, after parts that there are.
-pub fn grounds(
+pub fn premises(
     alloc: Global,
     parts: Items<Formula>,
     cons: &[Con],
@@ -252,7 +252,7 @@ fn reduce_rule(
     if let Some(lemma) = goal {
         add_goal(alloc, &rule.head, lemma.lits.as_slice(), &mut parts)?;
     }
-    grounds(
+    premises(
         alloc,
         parts,
         rule.cons.as_slice(),
@@ -268,7 +268,7 @@ fn reduce_query(alloc: Global, query: &Query, lemmas: &[Lemma]) -> Result<Formul
 {
     let mut parts = Items::new(alloc);
     add_ranges(alloc, query.vars.as_slice(), &mut parts)?;
-    grounds(
+    premises(
         alloc,
         parts,
         query.cons.as_slice(),

@@ -1,6 +1,6 @@
 // Worked formulas: one predicate over a byte, from 0 on, one more while it is at most 9.
 
-use crate::{Grounds, branch, goal_rows, is_plain, reduce, rows};
+use crate::{Premises, branch, goal_rows, is_plain, reduce, rows};
 use chc_form::{App, Con, Lemma, Lin, Lit, LitTerm, Part, Query, Row, Rule, Sort, System};
 use chc_nums::{List, NoMemory, Ty};
 use std::alloc::Global;
@@ -156,7 +156,7 @@ fn leaves_choices_out(rt: HostRuntime) -> Result<(), Fail> {
 }
 
 #[test]
-fn grounds_leave_a_place_for_the_goal(rt: HostRuntime) -> Result<(), Fail> {
+fn premises_leave_a_place_for_the_goal(rt: HostRuntime) -> Result<(), Fail> {
     let alloc = rt.alloc();
     let s = system(alloc)?;
     if !chc_form::well_made(&s) || s.rules.is_empty() {
@@ -165,7 +165,7 @@ fn grounds_leave_a_place_for_the_goal(rt: HostRuntime) -> Result<(), Fail> {
     }
     let mut lemmas = Vec::new(alloc);
     lemmas.push(lemma(alloc, -10, None)?)?;
-    let grounds = Grounds::new(alloc, &s, 0, lemmas.as_slice())?;
+    let premises = Premises::new(alloc, &s, 0, lemmas.as_slice())?;
     for (at, terms, konst) in [
         (0, [(0, -1)].as_slice(), 0),
         (1, [(0, 1)].as_slice(), -255),
@@ -173,24 +173,24 @@ fn grounds_leave_a_place_for_the_goal(rt: HostRuntime) -> Result<(), Fail> {
         (3, [(1, 1)].as_slice(), -255),
     ] {
         assert!(rt;
-            is_row(&grounds.before, at, terms, konst),
+            is_row(&premises.before, at, terms, konst),
             "row {at} before"
         );
     }
-    assert_eq!(rt; grounds.before.len(), 4);
+    assert_eq!(rt; premises.before.len(), 4);
     for (at, terms, konst) in [
         (0, [(0, 1)].as_slice(), -9),
         (1, [(0, 1), (1, -1)].as_slice(), 1),
         (2, [(0, -1), (1, 1)].as_slice(), -1),
         (3, [(0, 1)].as_slice(), -10),
     ] {
-        assert!(rt; is_row(&grounds.after, at, terms, konst), "row {at} after");
+        assert!(rt; is_row(&premises.after, at, terms, konst), "row {at} after");
     }
-    assert_eq!(rt; grounds.after.len(), 4);
-    assert!(rt; grounds.plain);
-    assert_eq!(rt; grounds.branch.as_slice(), [0u32].as_slice());
+    assert_eq!(rt; premises.after.len(), 4);
+    assert!(rt; premises.plain);
+    assert_eq!(rt; premises.branch.as_slice(), [0u32].as_slice());
     let goal = lemma(alloc, -10, None)?;
-    let rows = goal_rows(alloc, &grounds.head, &goal)?;
+    let rows = goal_rows(alloc, &premises.head, &goal)?;
     assert!(rt; is_row(&rows, 0, [(1, -1)].as_slice(), 11));
     assert_eq!(rt; rows.len(), 1);
     Ok(())

@@ -4,10 +4,10 @@ use Rattle.std.specs.Prelude.{slice_set}
 use lib.IntN.{ℤ}
 use Rattle.chc_nums.specs.Values.{with_value}
 use Rattle.chc_simplex.specs.declared.data.Line.{Line}
-use Rattle.chc_simplex.specs.declared.data.Board.{Board}
+use Rattle.chc_simplex.specs.declared.data.Simplex.{Simplex}
 use Rattle.chc_simplex.specs.Lines.{Tableau}
 use Rattle.chc_simplex.specs.Rounds.{is_above, first_above}
-use Rattle.chc_simplex.specs.Board.{marks_of, first_marked, AreMarked}
+use Rattle.chc_simplex.specs.Simplex.{marks_of, first_marked, AreMarked}
 
 marked-then : (v : ℕ) (m : Option Bool) (a b : Option (Option ℕ)) → a ≡ b → with_value m (λ above. if above then Some (Some v) else a) ≡ with_value m (λ above. if above then Some (Some v) else b)
 marked-then v m a b e = rw e refl
@@ -16,7 +16,7 @@ marked-above : (n : ℕ) (bounds : List ℤ) (v : ℕ) (tab : Tableau) → first
 marked-above n bounds v [] = refl
 marked-above n bounds v (o ∷ os) = marked-then v (is_above n bounds v o) (first_marked (v + 1) (marks_of n bounds (v + 1) os)) (first_above n bounds (v + 1) os) (marked-above n bounds (v + 1) os)
 
-pub first-is : (b : Board) → AreMarked b → first_marked 0 b.marks ≡ first_above b.variables b.bounds 0 b.tableau
+pub first-is : (b : Simplex) → AreMarked b → first_marked 0 b.marks ≡ first_above b.variables b.bounds 0 b.tableau
 first-is b h = ap (first_marked 0) h.marks ∙ marked-above b.variables b.bounds 0 b.tableau
 
 marks-put : (n : ℕ) (bounds : List ℤ) (v i : ℕ) (tab : Tableau) (o : Option Line) → marks_of n bounds v (slice_set tab i o) ≡ slice_set (marks_of n bounds v tab) i (is_above n bounds (v + i) o)

@@ -3,7 +3,7 @@ pub mod Divisors
 pub mod Terms
 pub mod Lines
 pub mod Rounds
-pub mod Board
+pub mod Simplex
 pub mod Endings
 pub mod TableauRun
 pub mod Answers

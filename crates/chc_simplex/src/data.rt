@@ -28,7 +28,7 @@ pub struct Line {
 /// whether its variable is a basic slack above its bound, or none where a number of that test leaves 128 bits. So a round
 /// tests again only lines that a pivot changed.
 #[derive(Drop)]
-pub struct Board {
+pub struct Simplex {
     pub variables: usize,
     pub bounds: List<i128>,
     pub tableau: List<Option<Line>>,

@@ -3,13 +3,13 @@
 //! the run left 128 bits or took too many pivots.
 #![tactic(auto)]
 
-mod board;
 mod data;
 mod endings;
 mod lines;
 mod numbers;
 mod rounds;
 mod run;
+mod simplex;
 mod terms;
 
 pub use chc_form::Row;

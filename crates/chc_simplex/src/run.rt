@@ -4,12 +4,12 @@ ghost use Rattle.std.specs.Prelude.{◌≡◌, ◌+◌, ◌<◌, ◌≤◌, ◌^
 ghost use Rattle.chc_form.specs.Linear.{AllAscend, lins};
 ghost use Rattle.chc_simplex.specs.Outcomes.{Gives};
 ghost use Rattle.chc_simplex.specs.Answers.{Answers};
-ghost use Rattle.chc_simplex.specs.Board.{AreMarked};
+ghost use Rattle.chc_simplex.specs.Simplex.{AreMarked};
 ghost use Rattle.chc_simplex.specs.TableauRun.{terms_width, width, bounds_of, nonbasic, slack_lines, first_tableau, run_from, whole_run, tableau_run};
 
-use crate::board::{marks_of, next_step, pivot};
-use crate::data::{Board, Line, Lp, Step, Stop};
+use crate::data::{Line, Lp, Simplex, Step, Stop};
 use crate::endings::{point, refutation};
+use crate::simplex::{marks_of, next_step, pivot};
 use chc_form::Row;
 use chc_nums::{List, NoMemory, opposite};
 use std::alloc::Global;
@@ -113,34 +113,34 @@ fn first_tableau(alloc: Global, rows: &[Row]) -> Result<List<Option<Line>>, Stop
 
 // The run from a tableau on.
 #[tactic(auto, using(crate::proofs::Turns::rounds))]
-fn run_from(alloc: Global, rows: &[Row], pivots: u32, board: Board) -> Result<Lp, Stop>
+fn run_from(alloc: Global, rows: &[Row], pivots: u32, simplex: Simplex) -> Result<Lp, Stop>
     requires few { length rows.now < 2 ^ 31 }
-    requires marked { AreMarked board }
-    requires variables { board.variables ≡ width (lins rows.now) }
-    requires narrow { board.variables ≤ 2 ^ 32 }
-    ensures { Gives result (run_from (lins rows.now) board.bounds pivots board.tableau) }
+    requires marked { AreMarked simplex }
+    requires variables { simplex.variables ≡ width (lins rows.now) }
+    requires narrow { simplex.variables ≤ 2 ^ 32 }
+    ensures { Gives result (run_from (lins rows.now) simplex.bounds pivots simplex.tableau) }
 {
     let mut left = pivots;
-    let mut board = board;
+    let mut simplex = simplex;
     'rounds: loop {
-        let Some(step) = next_step(&board) else {
+        let Some(step) = next_step(&simplex) else {
             return Err(Stop::Wide);
         };
         match step {
             Step::AllHold => {
                 return point(
                     alloc,
-                    board.variables,
-                    board.bounds.as_slice(),
-                    board.tableau.as_slice(),
+                    simplex.variables,
+                    simplex.bounds.as_slice(),
+                    simplex.tableau.as_slice(),
                 );
             }
             Step::Stuck(stuck) => {
                 return refutation(
                     alloc,
-                    board.variables,
+                    simplex.variables,
                     rows,
-                    board.tableau.as_slice(),
+                    simplex.tableau.as_slice(),
                     stuck,
                 );
             }
@@ -149,7 +149,7 @@ fn run_from(alloc: Global, rows: &[Row], pivots: u32, board: Board) -> Result<Lp
                     return Ok(Lp::Pivots);
                 }
                 left -= 1;
-                board = pivot(alloc, board, leaving, entering)?;
+                simplex = pivot(alloc, simplex, leaving, entering)?;
             }
         }
     }
@@ -164,13 +164,13 @@ fn run(alloc: Global, rows: &[Row], pivots: u32) -> Result<Lp, Stop>
     let bounds = bounds_of(alloc, rows)?;
     let tableau = first_tableau(alloc, rows)?;
     let marks = marks_of(alloc, variables, bounds.as_slice(), tableau.as_slice())?;
-    let board = Board {
+    let simplex = Simplex {
         variables,
         bounds,
         tableau,
         marks,
     };
-    run_from(alloc, rows, pivots, board)
+    run_from(alloc, rows, pivots, simplex)
 }
 
 /// The answer of the simplex tableau by Bland's rule, with so many pivots at most.

@@ -4,9 +4,9 @@ ghost use Rattle.std.specs.Prelude.{◌≡◌, Some, slice_set};
 ghost use Rattle.chc_simplex.specs.Outcomes.{Gives};
 ghost use Rattle.chc_simplex.specs.Lines.{rewritten, rewritten_at, exchanged, pivot};
 ghost use Rattle.chc_simplex.specs.Rounds.{next_step};
-ghost use Rattle.chc_simplex.specs.Board.{marks_of, first_marked, AreMarked, GivesBoard};
+ghost use Rattle.chc_simplex.specs.Simplex.{marks_of, first_marked, AreMarked, GivesSimplex};
 
-use crate::data::{Board, Line, Step, Stop};
+use crate::data::{Line, Simplex, Step, Stop};
 use crate::lines::{denominator_at, terms_at, turned, with_entered};
 use crate::rounds::{is_above, step_of};
 use crate::terms::coefficient;
@@ -55,12 +55,12 @@ fn first_marked(marks: &[Option<bool>]) -> Option<Option<usize>>
 
 /// What a round finds, or none where a number leaves 128 bits.
 #[tactic(auto, unfolding(crate::specs::Rounds::next_step), using(crate::proofs::Marking::marks))]
-pub fn next_step(board: &Board) -> Option<Step>
-    requires { AreMarked board.now }
-    ensures { result ≡ next_step board.now.variables board.now.bounds board.now.tableau }
+pub fn next_step(simplex: &Simplex) -> Option<Step>
+    requires { AreMarked simplex.now }
+    ensures { result ≡ next_step simplex.now.variables simplex.now.bounds simplex.now.tableau }
 {
-    let leaving = first_marked(board.marks.as_slice())?;
-    Some(step_of(board.variables, board.tableau.as_slice(), leaving))
+    let leaving = first_marked(simplex.marks.as_slice())?;
+    Some(step_of(simplex.variables, simplex.tableau.as_slice(), leaving))
 }
 
 // ---- a pivot
@@ -76,22 +76,22 @@ fn put<T: Drop>(list: &mut List<T>, at: usize, entry: T)
 
 // Another line at a place, with its mark.
 #[tactic(auto, using(crate::proofs::Marking::marks))]
-fn with_line(board: Board, at: usize, line: Option<Line>) -> Board
-    requires { AreMarked board }
-    ensures { GivesBoard board (Ok result) (Some (slice_set board.tableau at line)) }
+fn with_line(simplex: Simplex, at: usize, line: Option<Line>) -> Simplex
+    requires { AreMarked simplex }
+    ensures { GivesSimplex simplex (Ok result) (Some (slice_set simplex.tableau at line)) }
 {
-    let Board {
+    let Simplex {
         variables,
         bounds,
         tableau,
         marks,
-    } = board;
+    } = simplex;
     let mark = is_above(variables, bounds.as_slice(), at, &line);
     let mut tableau = tableau;
     let mut marks = marks;
     put(&mut tableau, at, line);
     put(&mut marks, at, mark);
-    Board {
+    Simplex {
         variables,
         bounds,
         tableau,
@@ -105,59 +105,69 @@ fn rewritten_at(
     alloc: Global,
     entering: usize,
     entered: &Line,
-    board: Board,
+    simplex: Simplex,
     at: usize,
-) -> Result<Board, Stop>
-    requires { AreMarked board }
-    ensures { GivesBoard board result (rewritten_at entering entered.now board.tableau at) }
+) -> Result<Simplex, Stop>
+    requires { AreMarked simplex }
+    ensures { GivesSimplex simplex result (rewritten_at entering entered.now simplex.tableau at) }
 {
-    let Some(Some(line)) = board.tableau.get(at) else {
-        return Ok(board);
+    let Some(Some(line)) = simplex.tableau.get(at) else {
+        return Ok(simplex);
     };
     let a = coefficient(line.terms.as_slice(), entering);
     if a == 0 {
-        return Ok(board);
+        return Ok(simplex);
     }
     let made = with_entered(alloc, entering, entered, a, line)?;
-    Ok(with_line(board, at, Some(made)))
+    Ok(with_line(simplex, at, Some(made)))
 }
 
 // The entering variable put into each line. The others are not touched, so a pivot costs what the changed lines cost.
 #[tactic(auto, using(crate::proofs::Rewriting::turns))]
-fn rewritten(alloc: Global, entering: usize, entered: &Line, board: Board) -> Result<Board, Stop>
-    requires { AreMarked board }
-    ensures { GivesBoard board result (rewritten entering entered.now board.tableau) }
+fn rewritten(
+    alloc: Global,
+    entering: usize,
+    entered: &Line,
+    simplex: Simplex,
+) -> Result<Simplex, Stop>
+    requires { AreMarked simplex }
+    ensures { GivesSimplex simplex result (rewritten entering entered.now simplex.tableau) }
 {
-    let mut board = board;
-    for at in 0..board.tableau.len() {
-        board = rewritten_at(alloc, entering, entered, board, at)?;
+    let mut simplex = simplex;
+    for at in 0..simplex.tableau.len() {
+        simplex = rewritten_at(alloc, entering, entered, simplex, at)?;
     }
-    Ok(board)
+    Ok(simplex)
 }
 
 fn exchanged(
     alloc: Global,
-    board: Board,
+    simplex: Simplex,
     leaving: usize,
     entering: usize,
     entered: Line,
-) -> Result<Board, Stop>
-    requires { AreMarked board }
-    ensures { GivesBoard board result (exchanged board.tableau leaving entering entered) }
+) -> Result<Simplex, Stop>
+    requires { AreMarked simplex }
+    ensures { GivesSimplex simplex result (exchanged simplex.tableau leaving entering entered) }
 {
-    let left = with_line(board, leaving, None);
+    let left = with_line(simplex, leaving, None);
     let made = rewritten(alloc, entering, &entered, left)?;
     Ok(with_line(made, entering, Some(entered)))
 }
 
 /// The tableau after a slack left the basis and a variable entered.
 #[tactic(auto, unfolding(crate::specs::Lines::pivot))]
-pub fn pivot(alloc: Global, board: Board, leaving: usize, entering: usize) -> Result<Board, Stop>
-    requires { AreMarked board }
-    ensures { GivesBoard board result (pivot board.tableau leaving entering) }
+pub fn pivot(
+    alloc: Global,
+    simplex: Simplex,
+    leaving: usize,
+    entering: usize,
+) -> Result<Simplex, Stop>
+    requires { AreMarked simplex }
+    ensures { GivesSimplex simplex result (pivot simplex.tableau leaving entering) }
 {
-    let denominator = denominator_at(board.tableau.as_slice(), leaving);
-    let terms = terms_at(board.tableau.as_slice(), leaving);
+    let denominator = denominator_at(simplex.tableau.as_slice(), leaving);
+    let terms = terms_at(simplex.tableau.as_slice(), leaving);
     let entered = turned(alloc, denominator, terms, leaving, entering)?;
-    exchanged(alloc, board, leaving, entering, entered)
+    exchanged(alloc, simplex, leaving, entering, entered)
 }

@@ -14,15 +14,15 @@ use Rattle.chc_houdini.specs.declared.greatest.RoundStop.{RoundStop}
 use Rattle.chc_houdini.specs.declared.rounds.Judged.{Judged}
 use Rattle.chc_houdini.specs.declared.rounds.Judged.TheVariants as judged
 use Rattle.chc_houdini.specs.declared.rounds.Round.{Round}
-use Rattle.chc_houdini.specs.declared.rounds.Standing.{Standing}
+use Rattle.chc_houdini.specs.declared.rounds.Candidate.{Candidate}
 use Rattle.chc_houdini.specs.Drops.{is_named}
 use Rattle.chc_houdini.specs.Rounds.{noted}
 
 -- the candidates, from number k on, that no drop of a round below i names
-abbrev pub standing_from : List RoundStop → ℕ → ℕ → List Lemma → List Standing
-standing_from drops i k [] = []
-standing_from drops i k (c ∷ cs) =
-    if is_named drops i k then standing_from drops i (suc k) cs else (record { number = k; lemma = c; judged = judged.Shown [] }) ∷ standing_from drops i (suc k) cs
+abbrev pub candidates_from : List RoundStop → ℕ → ℕ → List Lemma → List Candidate
+candidates_from drops i k [] = []
+candidates_from drops i k (c ∷ cs) =
+    if is_named drops i k then candidates_from drops i (suc k) cs else (record { number = k; lemma = c; judged = judged.Shown [] }) ∷ candidates_from drops i (suc k) cs
 
 -- the answer for rule number j, after multipliers for those before it
 abbrev pub taken : ℕ → List (List ℤ) → Asked → Judged
@@ -34,15 +34,15 @@ judged_more s l have j r c (judged.Shown made) = if r.head.pred == c.pred then t
 judged_more s l have j r c (judged.Stopped i o) = judged.Stopped i o
 
 -- a candidate after rule number j
-abbrev pub turned : System → Limits → List Lemma → ℕ → Rule → Standing → Standing
+abbrev pub turned : System → Limits → List Lemma → ℕ → Rule → Candidate → Candidate
 turned s l have j r x = record x { judged = judged_more s l have j r x.lemma x.judged }
 
 -- candidates after rules, from number j on
-abbrev pub judged_by : System → Limits → List Lemma → ℕ → List Rule → List Standing → List Standing
+abbrev pub judged_by : System → Limits → List Lemma → ℕ → List Rule → List Candidate → List Candidate
 judged_by s l have j [] xs = xs
 judged_by s l have j (r ∷ rs) xs = judged_by s l have (suc j) rs (map (turned s l have j r) xs)
 
 -- a round so far, and candidates with their judgements
-abbrev pub gathered : ℕ → Round → List Standing → Round
+abbrev pub gathered : ℕ → Round → List Candidate → Round
 gathered i sofar [] = sofar
 gathered i sofar (x ∷ xs) = gathered i (noted i x.number sofar x.judged) xs

@@ -7,9 +7,9 @@ ghost use Rattle.chc_form.specs.Linear.{lins};
 ghost use Rattle.chc_form.specs.WellMade.{is_sort, well_made};
 ghost use Rattle.chc_reduce.specs.Reduced.{ranges, refuted, constraint, instances};
 ghost use Rattle.chc_reduce.specs.Rows.{rows_of};
-ghost use Rattle.chc_reduce.specs.Grounds.{goal_part, AreMadeOf, AreGrounds, InOrder};
+ghost use Rattle.chc_reduce.specs.Premises.{goal_part, AreMadeOf, ArePremises, InOrder};
 
-use crate::reduction::{add_goal, add_ranges, grounds};
+use crate::reduction::{add_goal, add_ranges, premises};
 use crate::shape::{branch, is_plain, rows};
 use chc_form::{App, Formula, Lemma, Row, Rule, System};
 use chc_nums::{List, NoMemory};
@@ -19,7 +19,7 @@ use std::alloc::Global;
 /// A rule under lemmas, but for the lemma that is to be shown at its head: the rows before those of that goal, the rows
 /// after them, the branch, and whether there is no choice. Made once, it serves one goal after another.
 #[derive(Drop)]
-pub struct Grounds {
+pub struct Premises {
     pub head: App,
     pub before: List<Row>,
     pub after: List<Row>,
@@ -27,33 +27,33 @@ pub struct Grounds {
     pub plain: bool,
 }
 
-impl Grounds {
+impl Premises {
     /// Those of a rule of a system, by its number. `NoMemory` also stands for 2^32 variables.
-    #[tactic(auto, using(crate::proofs::Goals::grounds))]
-    pub fn new(alloc: Global, s: &System, rule: u32, lemmas: &[Lemma]) -> Result<Grounds, NoMemory>
+    #[tactic(auto, using(crate::proofs::Goals::premises))]
+    pub fn new(alloc: Global, s: &System, rule: u32, lemmas: &[Lemma]) -> Result<Premises, NoMemory>
         requires made { well_made s.now ≡ true }
         requires there { rule < length s.now.rules }
-        ensures are { IfOk result (λ g. AreGrounds s.now rule lemmas.now g) }
+        ensures are { IfOk result (λ g. ArePremises s.now rule lemmas.now g) }
         ensures order { IfOk result (λ g. InOrder g) }
     {
         let rule = &s.rules.as_slice()[rule as usize];
-        grounds_of(alloc, rule, lemmas)
+        premises_of(alloc, rule, lemmas)
     }
 }
 
-fn grounds_of(alloc: Global, rule: &Rule, lemmas: &[Lemma]) -> Result<Grounds, NoMemory>
+fn premises_of(alloc: Global, rule: &Rule, lemmas: &[Lemma]) -> Result<Premises, NoMemory>
     requires { list_all is_sort rule.now.vars ≡ true }
     ensures { IfOk result (λ g. AreMadeOf rule.now lemmas.now g) }
 {
     let before = range_rows(alloc, rule)?;
-    let formula = grounds(
+    let formula = premises(
         alloc,
         Items::new(alloc),
         rule.cons.as_slice(),
         rule.body.as_slice(),
         lemmas,
     )?;
-    Ok(Grounds {
+    Ok(Premises {
         head: App {
             pred: rule.head.pred,
             args: rule.head.args.copy(alloc)?,

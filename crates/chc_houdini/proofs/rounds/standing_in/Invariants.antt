@@ -1,9 +1,0 @@
-use Rattle.std.proofs.Common.{◌≡◌, ◌++◌, length}
-use Rattle.chc_houdini.specs.Standing.{standing_from}
-use Rattle.chc_houdini.proofs.rounds.standing_in.Given as goal
-
-abbrev pub invariant-loop-rest : goal.invariant-loop-rest
-invariant-loop-rest l = l.standing ++ standing_from l.drops l.round l.number l.rest ≡ standing_from l.drops l.round 0 l.fn.from
-
-abbrev pub decreases-loop-rest : goal.decreases-loop-rest
-decreases-loop-rest l = length l.rest
