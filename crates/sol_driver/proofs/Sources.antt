@@ -1,5 +1,5 @@
 -- Tokens and the texts that they are of.
-use Rattle.std.proofs.Common.{ℕ, ◌≤◌, List, length, Option, Some, None, arith, length-append}
+use Rattle.std.proofs.Common.{ℕ, ◌≤◌, List, length, Option, Some, None, Ok, Err, ◌≢◌, arith, length-append}
 use Rattle.sol_tree.specs.declared.token.Token.{Token}
 use Rattle.sol_tree.specs.declared.token.TokenKind.{TokenKind}
 use Rattle.sol_tree.specs.declared.file.File.{File}
@@ -8,11 +8,15 @@ use Rattle.sol_lexer.specs.Tokens as rule
 use Rattle.sol_lexer.proofs.Laws.{piece-some}
 use Rattle.sol_parse_expr.specs.Place.{IsPlace}
 use Rattle.sol_parser.specs.Trees.{IsTree}
+use Rattle.sol_names.specs.declared.NameFault.{NameFault}
+use Rattle.sol_names.specs.declared.NameFault.TheVariants as naming
+use Rattle.sol_names.specs.declared.Lineage.{Lineage}
+use Rattle.sol_names.specs.Orders.{Orders}
 use Rattle.sol_first.specs.declared.Contract.{Contract}
 use Rattle.sol_reader.specs.Language.{IsFirst}
 use Rattle.sol_report.specs.declared.Report.{Report}
 use Rattle.sol_check.specs.Reports.{IsReportOf}
-use Rattle.sol_driver.specs.Refusals.{HasTree, HasNoTree}
+use Rattle.sol_driver.specs.Refusals.{HasTree, HasNoTree, HasNoLineage}
 use Rattle.sol_driver.specs.Stands.{Stands}
 
 token-one : (at n : ℕ) (k : Option TokenKind) → length (token_of at n k) ≤ 1
@@ -36,7 +40,12 @@ has-no_tree text ts at t h = record { tokens = ts; tokenizes = t; none = h.0; pl
 
 pub ruleset sources = (tokens-few, has-tree, has-no_tree)
 
-pub report_stands : (text : List ℕ) (f : File) (c : Contract) (r : Report) → HasTree text f → IsFirst text f c → IsReportOf c r → Stands text r
-report_stands text f c r source first right = record { file = f; source = source; contract = c; first = first; report = right }
+pub report_stands : (text : List ℕ) (f : File) (l : Lineage) (c : Contract) (r : Report) → HasTree text f → Orders f.units None (Ok l) → IsFirst text f c → IsReportOf c r → Stands text r
+report_stands text f l c r source ordered first right = record { file = f; source = source; lineage = l; ordered = ordered; contract = c; first = first; report = right }
 
 pub ruleset reports = (report_stands)
+
+pub no_lineage : (text : List ℕ) (f : File) (e : NameFault) → HasTree text f → Orders f.units None (Err e) → e ≢ naming.NoMemory → HasNoLineage text e
+no_lineage text f e source cause told = record { file = f; source = source; cause = cause; told = told }
+
+pub ruleset orders = (no_lineage)

@@ -1,5 +1,5 @@
 -- Why a text is refused, and the line that says so.
-use Rattle.std.specs.Prelude.{◌≡◌, ℕ, List, [], ◌++◌, take, drop, codes, decimal}
+use Rattle.std.specs.Prelude.{◌≡◌, ◌≢◌, ℕ, List, [], ◌++◌, take, drop, codes, decimal, None, Ok, Err}
 use Rattle.sol_tree.specs.declared.token.Token.{Token}
 use Rattle.sol_tree.specs.declared.file.File.{File}
 use Rattle.sol_lexer.specs.declared.lexer.LexFault.{LexFault}
@@ -7,6 +7,10 @@ use Rattle.sol_lexer.specs.declared.lexer.LexFault.TheVariants as fault
 use Rattle.sol_lexer.specs.Tokens.{Tokenizes, LexicalFault}
 use Rattle.sol_parse_expr.specs.Place.{IsPlace}
 use Rattle.sol_parser.specs.Trees.{IsTree}
+use Rattle.sol_names.specs.declared.NameFault.{NameFault}
+use Rattle.sol_names.specs.declared.NameFault.TheVariants as naming
+use Rattle.sol_names.specs.declared.Lineage.{Lineage}
+use Rattle.sol_names.specs.Orders.{Orders}
 use Rattle.sol_first.specs.declared.Contract.{Contract}
 use Rattle.sol_reader.specs.Language.{IsFirst}
 use Rattle.sol_reader.specs.Places.{line_of, column_of}
@@ -28,15 +32,25 @@ pub record HasNoTree (text : List ℕ) (at : ℕ) : Type 0 where
   pub none : (file : File) → IsTree file tokens → ⊥
   pub place : IsPlace at tokens
 
--- the text has a tree, which is that of no contract of the first language
+-- the text has a tree, of which no contract is to be checked, or one without a linearization, for this cause
+pub record HasNoLineage (text : List ℕ) (fault : NameFault) : Type 0 where
+  pub file : File
+  pub source : HasTree text file
+  pub cause : Orders file.units None (Err fault)
+  pub told : fault ≢ naming.NoMemory
+
+-- the text has a tree, and a contract to check; but the tree is that of no contract of the first language
 pub record IsNotBuilt (text : List ℕ) : Type 0 where
   pub file : File
   pub source : HasTree text file
+  pub lineage : Lineage
+  pub ordered : Orders file.units None (Ok lineage)
   pub foreign : (c : Contract) → IsFirst text file c → ⊥
 
 abbrev pub IsRefused : List ℕ → Refusal → Type 0
 IsRefused text (refusal.Lexical f) = LexicalFault text f
 IsRefused text (refusal.NoTree at) = HasNoTree text at
+IsRefused text (refusal.Naming f) = HasNoLineage text f
 IsRefused text refusal.NotBuilt = IsNotBuilt text
 
 -- ---- lines
@@ -62,9 +76,18 @@ fault_words text fault.NoMemory = []
 abbrev pub placed_line : List ℕ → ℕ → List ℕ → List ℕ
 placed_line text at words = decimal (line_of text at) ++ codes ":" ++ decimal (column_of text at) ++ codes " refused " ++ words ++ codes "\n"
 
+abbrev pub naming_line : List ℕ → NameFault → List ℕ
+naming_line text (naming.TwiceNamed at) = placed_line text at (codes "named-twice")
+naming_line text naming.NoContract = codes "refused no-contract\n"
+naming_line text (naming.UnknownBase at) = placed_line text at (codes "unknown-base")
+naming_line text (naming.NoOrder at) = placed_line text at (codes "no-order")
+naming_line text (naming.Abstract at) = placed_line text at (codes "abstract")
+naming_line text naming.NoMemory = []
+
 abbrev pub refusal_line : List ℕ → Refusal → List ℕ
 refusal_line text (refusal.Lexical f) = placed_line text (place_of_fault f) (fault_words text f)
 refusal_line text (refusal.NoTree at) = placed_line text at (codes "no-tree")
+refusal_line text (refusal.Naming f) = naming_line text f
 refusal_line text refusal.NotBuilt = codes "refused not-built\n"
 
 -- the line tells a cause for which the text is refused

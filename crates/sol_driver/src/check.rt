@@ -1,6 +1,7 @@
 // From the bytes of a file to its report.
 
-ghost use Rattle.std.specs.Prelude.{◌≤◌, length};
+ghost use Rattle.std.specs.Prelude.{◌≤◌, length, None, Ok};
+ghost use Rattle.sol_names.specs.Orders.{Orders};
 ghost use Rattle.sol_lexer.specs.Tokens.{Tokenizes};
 ghost use Rattle.sol_driver.specs.Findings.{Checks};
 ghost use Rattle.sol_driver.specs.Refusals.{HasTree};
@@ -8,6 +9,7 @@ ghost use Rattle.sol_driver.specs.Refusals.{HasTree};
 use crate::refusal::Refusal;
 use sol_check::check_contract;
 use sol_lexer::{LexFault, lex};
+use sol_names::{Lineage, NameFault, order};
 use sol_parse_expr::ParseFault;
 use sol_parser::parse;
 use sol_reader::{ReadFault, read};
@@ -22,11 +24,17 @@ pub enum CheckFault {
     NoMemory,
 }
 
-// The report of a text whose tree is this.
+// The report of a text whose tree is this, with a contract to check.
 #[tactic(auto, using(crate::proofs::Sources::reports))]
-fn check_tree(alloc: Global, text: &[u8], file: &File) -> Result<Report, CheckFault>
+fn check_ordered(
+    alloc: Global,
+    text: &[u8],
+    file: &File,
+    lineage: &Lineage,
+) -> Result<Report, CheckFault>
     requires short { length text.now ≤ 262144 }
     requires tree { HasTree text.now file.now }
+    requires ordered { Orders file.now.units None (Ok lineage.now) }
     ensures { Checks text.now result }
 {
     let contract = match read(alloc, text, file) {
@@ -37,6 +45,20 @@ fn check_tree(alloc: Global, text: &[u8], file: &File) -> Result<Report, CheckFa
     match check_contract(alloc, &contract) {
         Ok(report) => Ok(report),
         Err(_) => Err(CheckFault::NoMemory),
+    }
+}
+
+// The report of a text whose tree is this.
+#[tactic(auto, using(crate::proofs::Sources::orders))]
+fn check_tree(alloc: Global, text: &[u8], file: &File) -> Result<Report, CheckFault>
+    requires short { length text.now ≤ 262144 }
+    requires tree { HasTree text.now file.now }
+    ensures { Checks text.now result }
+{
+    match order(alloc, file, None) {
+        Ok(lineage) => check_ordered(alloc, text, file, &lineage),
+        Err(NameFault::NoMemory) => Err(CheckFault::NoMemory),
+        Err(fault) => Err(CheckFault::Refused(Refusal::Naming(fault))),
     }
 }
 

@@ -1,10 +1,11 @@
 // Why a text is refused, and the line that says so.
 
 ghost use Rattle.std.specs.Prelude.{◌≡◌, ◌≤◌, ◌++◌, length, take, drop, codes, IfOk};
-ghost use Rattle.sol_driver.specs.Refusals.{place_of_fault, fault_words, placed_line, refusal_line};
+ghost use Rattle.sol_driver.specs.Refusals.{place_of_fault, fault_words, placed_line, naming_line, refusal_line};
 
 use chc_nums::{List, NoMemory};
 use sol_lexer::LexFault;
+use sol_names::NameFault;
 use sol_reader::Lines;
 use std::alloc::Global;
 
@@ -15,6 +16,8 @@ pub enum Refusal {
     Lexical(LexFault),
     /// Its tokens have no tree, and the place of one of them is told.
     NoTree { at: u32 },
+    /// Its names are at fault, so that no contract is checked.
+    Naming(NameFault),
     /// Its tree is that of no contract of the first language.
     NotBuilt,
 }
@@ -85,6 +88,21 @@ fn placed_line(alloc: Global, text: &[u8], at: u32, words: &[u8]) -> Result<List
     Ok(List::from_vec(bytes))
 }
 
+// The line of a fault of names.
+fn naming_line(alloc: Global, text: &[u8], fault: NameFault) -> Result<List<u8>, NoMemory>
+    requires { length text.now ≤ 262144 }
+    ensures { IfOk result (λ line. line ≡ naming_line text.now fault) }
+{
+    match fault {
+        NameFault::TwiceNamed { at } => placed_line(alloc, text, at, b"named-twice"),
+        NameFault::NoContract => words_of(alloc, b"refused no-contract\n"),
+        NameFault::UnknownBase { at } => placed_line(alloc, text, at, b"unknown-base"),
+        NameFault::NoOrder { at } => placed_line(alloc, text, at, b"no-order"),
+        NameFault::Abstract { at } => placed_line(alloc, text, at, b"abstract"),
+        NameFault::NoMemory => words_of(alloc, b""),
+    }
+}
+
 /// The line that tells why a text is refused.
 pub fn refusal_line(alloc: Global, text: &[u8], refusal: Refusal) -> Result<List<u8>, NoMemory>
     requires { length text.now ≤ 262144 }
@@ -96,6 +114,7 @@ pub fn refusal_line(alloc: Global, text: &[u8], refusal: Refusal) -> Result<List
             placed_line(alloc, text, place_of_fault(fault), words.as_slice())
         }
         Refusal::NoTree { at } => placed_line(alloc, text, at, b"no-tree"),
+        Refusal::Naming(fault) => naming_line(alloc, text, fault),
         Refusal::NotBuilt => words_of(alloc, b"refused not-built\n"),
     }
 }

@@ -2,6 +2,7 @@
 
 mod faults;
 mod language;
+mod names;
 mod refusals;
 mod reports;
 mod trees;

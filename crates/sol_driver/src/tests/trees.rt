@@ -1,4 +1,5 @@
-// Whole files and the trees that they have or lack. A file with a tree is outside the first language here.
+// Whole files and the trees that they have or lack. A file with a tree has no contract to check here, or is outside the first
+// language.
 
 use super::checked;
 use crate::Status;
@@ -7,9 +8,9 @@ use std::alloc::Global;
 use std::test::Fail;
 
 const FILES: [(&str, &str); 29] = [
-    ("", "refused not-built"),
-    ("// nothing but a comment", "refused not-built"),
-    ("pragma solidity ^0.8.0;", "refused not-built"),
+    ("", "refused no-contract"),
+    ("// nothing but a comment", "refused no-contract"),
+    ("pragma solidity ^0.8.0;", "refused no-contract"),
     ("contract", "1:9 refused no-tree"),
     ("contract C", "1:11 refused no-tree"),
     ("contract C {", "1:13 refused no-tree"),
@@ -18,24 +19,27 @@ const FILES: [(&str, &str); 29] = [
     ("contract contract { }", "1:10 refused no-tree"),
     ("contract 1 { }", "1:10 refused no-tree"),
     ("abstract interface I { }", "1:10 refused no-tree"),
-    ("abstract contract C { }", "refused not-built"),
-    ("interface I { }", "refused not-built"),
+    ("abstract contract C { }", "refused no-contract"),
+    ("interface I { }", "refused no-contract"),
     (
         "contract A { } contract B { } interface I { }",
         "refused not-built",
     ),
     (
         "interface I is A, B(1) { function f(uint8) external view returns (bool b); }",
-        "refused not-built",
+        "refused no-contract",
     ),
-    ("contract C is A(1, 2), B, D() { }", "refused not-built"),
+    (
+        "contract C is A(1, 2), B, D() { }",
+        "1:15 refused unknown-base",
+    ),
     ("contract C is { }", "1:15 refused no-tree"),
     ("contract C is A, { }", "1:18 refused no-tree"),
     ("contract C is A(1, ) { }", "1:20 refused no-tree"),
     ("contract C A { }", "1:12 refused no-tree"),
     (
         "event E(uint8 indexed a, bool, address indexed) anonymous; error F(); error G(uint8 a, int8);",
-        "refused not-built",
+        "refused no-contract",
     ),
     ("event E(uint8 a", "1:16 refused no-tree"),
     ("event E() indexed;", "1:11 refused no-tree"),
@@ -62,7 +66,7 @@ const MEMBERS: [(&str, &str); 39] = [
     ),
     (
         "contract C { function f() external; function g() internal pure returns (bool); function h() private override { } }",
-        "refused not-built",
+        "1:10 refused abstract",
     ),
     (
         "contract C { constructor(uint8 a) A(a) public B internal { } }",
