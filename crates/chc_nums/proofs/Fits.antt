@@ -1,13 +1,14 @@
 -- Numbers of 128 bits.
-use Rattle.std.proofs.Common.{◌≡◌, ◌+ℤ◌, Option, Some, None, arith, true, false, cond, refl, sym, subst, ◌⊎◌, inl, inr}
-use lib.IntN.{ℤ}
+use Rattle.std.proofs.Common.{◌≡◌, ◌+ℤ◌, ◌*ℤ◌, ◌≤ℤ◌, ◌*◌, ◌-◌, ◌≤◌, ◌^◌, pos, neg_ℤ, suc, ℕ, Option, Some, None, arith, true, false, cond, refl, sym, subst, ◌⊎◌, inl, inr}
+use lib.IntN.{ℤ, negsuc}
 use Rattle.std.specs.Prelude.{FitsSigned}
 use Rattle.std.specs.Int.{w128}
 use Rattle.std.specs.Option.{SomeIff}
 use Rattle.std.proofs.lemmas.Int.{ints}
 use Rattle.std.proofs.lemmas.Bool.Decides.{nat_tests}
 use Rattle.chc_nums.specs.Values.{with_value}
-use Rattle.chc_nums.specs.Wide.{fits_128, in_128}
+use Rattle.std.proofs.lemmas.Nat.{mul-le}
+use Rattle.chc_nums.specs.Wide.{fits_128, in_128, IsShort}
 
 pub in_128-yes : (z : ℤ) → FitsSigned w128 z → in_128 z ≡ Some z
 unfolding in_128 fits_128
@@ -54,3 +55,32 @@ mul_add-is r p q e =
 pub in_128-value : (z s : ℤ) → in_128 z ≡ Some s → s ≡ z
 unfolding in_128
 in_128-value z s e = grind (arith, nat_tests)
+
+-- a number between the bounds has 128 bits
+pub fits-between : (z : ℤ) → neg_ℤ (pos (2 ^ 127)) ≤ℤ z → z ≤ℤ pos (2 ^ 127 - 1) → FitsSigned w128 z
+fits-between (pos n) l h = record { sfits = omega (arith, ints, l, h) }
+fits-between (negsuc n) l h = record { sfits = omega (arith, ints, l, h) }
+
+pub fits-bounds : (z : ℤ) → FitsSigned w128 z → (neg_ℤ (pos (2 ^ 127)) ≤ℤ z) × (z ≤ℤ pos (2 ^ 127 - 1))
+fits-bounds (pos n) f = let h = f.sfits in (omega (arith, ints, h), omega (arith, ints, h))
+fits-bounds (negsuc n) f = let h = f.sfits in (omega (arith, ints, h), omega (arith, ints, h))
+
+-- a product of two numbers that are no further from 0 than 2^63
+pub short-product : (a b : ℤ) → IsShort a → IsShort b → FitsSigned w128 (a *ℤ b)
+short-product (pos a) (pos b) f g =
+    let h = mul-le a b (2 ^ 63) (2 ^ 63) (omega (arith, ints, f)) (omega (arith, ints, g)) in
+    fits-between (pos a *ℤ pos b) (omega (arith, ints, h)) (omega (arith, ints, h))
+short-product (pos a) (negsuc b) f g =
+    let h = mul-le a (suc b) (2 ^ 63) (2 ^ 63) (omega (arith, ints, f)) (omega (arith, ints, g)) in
+    fits-between (pos a *ℤ negsuc b) (omega (arith, ints, h)) (omega (arith, ints, h))
+short-product (negsuc a) (pos b) f g =
+    let h = mul-le (suc a) b (2 ^ 63) (2 ^ 63) (omega (arith, ints, f)) (omega (arith, ints, g)) in
+    fits-between (negsuc a *ℤ pos b) (omega (arith, ints, h)) (omega (arith, ints, h))
+short-product (negsuc a) (negsuc b) f g =
+    let h = mul-le (suc a) (suc b) (2 ^ 63) (2 ^ 63) (omega (arith, ints, f)) (omega (arith, ints, g)) in
+    fits-between (negsuc a *ℤ negsuc b) (omega (arith, ints, h)) (omega (arith, ints, h))
+
+pub short-value : (a b : ℤ) → IsShort a → IsShort b → Some (a *ℤ b) ≡ in_128 (a *ℤ b)
+short-value a b f g = sym (in_128-yes (a *ℤ b) (short-product a b f g))
+
+pub ruleset products = (short-product, short-value)

@@ -1,12 +1,12 @@
 -- Numbers as so many times 2^64 and a rest.
-use Rattle.std.proofs.Common.{inl, inr, ◌≡◌, sym, arith}
-use Rattle.std.specs.Prelude.{pos, ◌+ℤ◌, ◌-ℤ◌, ◌*ℤ◌, ◌≤ℤ◌, neg_ℤ, Some, None, Result, Ok, Err, IfOk, FitsSigned}
+use Rattle.std.proofs.Common.{inl, inr, ◌≡◌, sym, arith, ◌-◌, ◌^◌}
+use Rattle.std.specs.Prelude.{pos, ◌+ℤ◌, ◌-ℤ◌, ◌*ℤ◌, ◌≤ℤ◌, neg_ℤ, Some, None, FitsSigned}
 use Rattle.std.specs.Int.{int_div_euclid, int_rem_euclid, w128}
 use Rattle.std.proofs.lemmas.Int.{ints}
 use lib.IntN.{ℤ, negsuc}
 use Rattle.chc_nums.specs.Wide.{in_128}
-use Rattle.chc_nums.specs.Totals.{half}
-use Rattle.chc_nums.proofs.Fits.{in_128-value, in_128-cases, in_128-yes}
+use Rattle.chc_nums.specs.Totals.{half, IsWithin}
+use Rattle.chc_nums.proofs.Fits.{in_128-cases, in_128-yes, fits-between, fits-bounds}
 
 pub halved : (z : ℤ) → (int_div_euclid z half *ℤ half) +ℤ int_rem_euclid z half ≡ z
 halved (pos a) = omega (arith, ints)
@@ -20,17 +20,27 @@ pub rest-high : (z : ℤ) → int_rem_euclid z half ≤ℤ pos 18446744073709551
 rest-high (pos a) = omega (arith, ints)
 rest-high (negsuc a) = omega (arith, ints)
 
-pub plus-is : {E : Type 0} (res : Result ℤ E) (s sh sl n d r h : ℤ) → (sh *ℤ half) +ℤ sl ≡ s → d ≡ int_div_euclid n half → r ≡ int_rem_euclid n half → Some h ≡ in_128 (sh +ℤ d) → IfOk res (λ t. t ≡ (h *ℤ half) +ℤ (sl +ℤ r)) → IfOk res (λ t. t ≡ s +ℤ n)
-plus-is (Ok t) s sh sl n d r h v p q e i = let high = in_128-value (sh +ℤ d) h (sym e) in omega (arith, ints, high, halved n, v, p, q, i)
-plus-is (Err x) s sh sl n d r h v p q e i = tt
+-- ---- a sum that has room for one number more
 
-pub minus-is : {E : Type 0} (res : Result ℤ E) (s sh sl n d r h : ℤ) → (sh *ℤ half) +ℤ sl ≡ s → d ≡ int_div_euclid n half → r ≡ int_rem_euclid n half → Some h ≡ in_128 (sh -ℤ d) → IfOk res (λ t. t ≡ (h *ℤ half) +ℤ (sl -ℤ r)) → IfOk res (λ t. t ≡ s -ℤ n)
-minus-is (Ok t) s sh sl n d r h v p q e i = let high = in_128-value (sh -ℤ d) h (sym e) in omega (arith, ints, high, halved n, v, p, q, i)
-minus-is (Err x) s sh sl n d r h v p q e i = tt
+pub plus-high : (s sh sl n d : ℤ) → (sh *ℤ half) +ℤ sl ≡ s → (pos 0 ≤ℤ sl) × (sl ≤ℤ pos 18446744073709551615) → IsWithin (2 ^ 64 - 2) s → FitsSigned w128 n → d ≡ int_div_euclid n half → (neg_ℤ (pos (2 ^ 127 - 2 ^ 62)) ≤ℤ (sh +ℤ d)) × ((sh +ℤ d) ≤ℤ pos (2 ^ 127 - 2 ^ 62))
+plus-high s sh sl n d v low w f e =
+    let b = fits-bounds n f in
+    (omega (arith, ints, v, low, w, b, e, halved n, rest-low n, rest-high n), omega (arith, ints, v, low, w, b, e, halved n, rest-low n, rest-high n))
 
-pub opposite-is : {E : Type 0} (res : Result ℤ E) (s sh sl h : ℤ) → (sh *ℤ half) +ℤ sl ≡ s → Some h ≡ in_128 (neg_ℤ sh) → IfOk res (λ t. t ≡ (h *ℤ half) +ℤ (pos 0 -ℤ sl)) → IfOk res (λ t. t ≡ neg_ℤ s)
-opposite-is (Ok t) s sh sl h v e i = let high = in_128-value (neg_ℤ sh) h (sym e) in omega (arith, ints, high, v, i)
-opposite-is (Err x) s sh sl h v e i = tt
+pub minus-high : (s sh sl n d : ℤ) → (sh *ℤ half) +ℤ sl ≡ s → (pos 0 ≤ℤ sl) × (sl ≤ℤ pos 18446744073709551615) → IsWithin (2 ^ 64 - 2) s → FitsSigned w128 n → d ≡ int_div_euclid n half → (neg_ℤ (pos (2 ^ 127 - 2 ^ 62)) ≤ℤ (sh -ℤ d)) × ((sh -ℤ d) ≤ℤ pos (2 ^ 127 - 2 ^ 62))
+minus-high s sh sl n d v low w f e =
+    let b = fits-bounds n f in
+    (omega (arith, ints, v, low, w, b, e, halved n, rest-low n, rest-high n), omega (arith, ints, v, low, w, b, e, halved n, rest-low n, rest-high n))
+
+-- so large a number has 128 bits
+pub room-fits : (z : ℤ) → (neg_ℤ (pos (2 ^ 127 - 2 ^ 62)) ≤ℤ z) × (z ≤ℤ pos (2 ^ 127 - 2 ^ 62)) → FitsSigned w128 z
+room-fits z b = fits-between z (omega (arith, ints, b)) (omega (arith, ints, b))
+
+pub plus-is : (t s sh sl n d r : ℤ) → (sh *ℤ half) +ℤ sl ≡ s → d ≡ int_div_euclid n half → r ≡ int_rem_euclid n half → t ≡ ((sh +ℤ d) *ℤ half) +ℤ (sl +ℤ r) → t ≡ s +ℤ n
+plus-is t s sh sl n d r v p q i = omega (arith, ints, halved n, v, p, q, i)
+
+pub minus-is : (t s sh sl n d r : ℤ) → (sh *ℤ half) +ℤ sl ≡ s → d ≡ int_div_euclid n half → r ≡ int_rem_euclid n half → t ≡ ((sh -ℤ d) *ℤ half) +ℤ (sl -ℤ r) → t ≡ s -ℤ n
+minus-is t s sh sl n d r v p q i = omega (arith, ints, halved n, v, p, q, i)
 
 -- where so many times 2^64 leave 128 bits, no number below 2^64 brings them back
 fits-high : (s sh sl : ℤ) → (sh *ℤ half) +ℤ sl ≡ s → pos 0 ≤ℤ sl → sl ≤ℤ pos 18446744073709551615 → FitsSigned w128 s → FitsSigned w128 (sh *ℤ half)

@@ -1,5 +1,5 @@
 -- Numbers of 128 bits with a sign, and results that stop where they leave them.
-use Rattle.std.specs.Prelude.{Option, Some, None, pos, ◌+ℤ◌, ◌*ℤ◌, neg_ℤ, Bool, not, ◌&&◌, if◌then◌else◌, ◌^◌, int_div}
+use Rattle.std.specs.Prelude.{◌≤ℤ◌, Option, Some, None, pos, ◌+ℤ◌, ◌*ℤ◌, neg_ℤ, Bool, not, ◌&&◌, if◌then◌else◌, ◌^◌, int_div}
 use lib.IntN.{ℤ}
 use lib.Signed.{lt_z}
 use Rattle.std.specs.Ordering.{int_eq}
@@ -20,3 +20,7 @@ add_product s a b = with_value (in_128 (a *ℤ b)) (λ p. in_128 (s +ℤ p))
 -- x, where a can be divided by b: b is not 0, and the quotient has 128 bits
 unfoldable pub divided : ℤ → ℤ → ℤ → Option ℤ
 divided a b x = if int_eq b (pos 0) then None else (if fits_128 (int_div a b) then Some x else None)
+
+-- no further from 0 than 2^63, so that a product of two such numbers has 128 bits
+abbrev pub IsShort : ℤ → Type 0
+IsShort z = (neg_ℤ (pos (2 ^ 63)) ≤ℤ z) × (z ≤ℤ pos (2 ^ 63))

@@ -1,12 +1,11 @@
-// Sums of numbers of 128 bits that are exact, however far they go.
+// Exact sums of numbers of 128 bits.
 
-ghost use Rattle.std.specs.Prelude.{◌≡◌, ◌+ℤ◌, ◌-ℤ◌, ◌*ℤ◌, neg_ℤ, pos, IfOk};
+ghost use Rattle.std.specs.Prelude.{◌≡◌, ◌≤ℤ◌, ◌+ℤ◌, ◌-ℤ◌, ◌*ℤ◌, ◌-◌, ◌^◌, neg_ℤ, pos};
 ghost use Rattle.std.specs.Ordering.{int_eq};
 ghost use Rattle.chc_nums.specs.Wide.{in_128};
-ghost use Rattle.chc_nums.specs.Totals.{half};
+ghost use Rattle.chc_nums.specs.Totals.{half, IsWithin};
 
-use crate::memory::NoMemory;
-use crate::wide::{difference, opposite, product, sum};
+use crate::wide::{product, sum};
 use std::marker::Model;
 
 // 2^64
@@ -34,17 +33,16 @@ impl Model for Total {
     ghost invariant = { IsTotal };
 }
 
-// So many times 2^64 and another number. `NoMemory` stands for a sum of more than 2^62 numbers.
+// So many times 2^64 and another number.
 #[tactic(auto, using(crate::proofs::Halves::halves))]
-fn placed(high: i128, low: i128) -> Result<Total, NoMemory>
-    ensures { IfOk result (λ t. t ≡ (high *ℤ half) +ℤ low) }
+fn placed(high: i128, low: i128) -> Total
+    requires high { (neg_ℤ (pos (2 ^ 127 - 2 ^ 62)) ≤ℤ high) × (high ≤ℤ pos (2 ^ 127 - 2 ^ 62)) }
+    requires low { (neg_ℤ (pos (2 ^ 66)) ≤ℤ low) × (low ≤ℤ pos (2 ^ 66)) }
+    ensures { result ≡ (high *ℤ half) +ℤ low }
 {
-    match sum(high, low.div_euclid(HALF)) {
-        None => Err(NoMemory),
-        Some(high) => Ok(Total {
-            high,
-            low: low.rem_euclid(HALF),
-        }),
+    Total {
+        high: high + low.div_euclid(HALF),
+        low: low.rem_euclid(HALF),
     }
 }
 
@@ -70,36 +68,37 @@ impl Total {
         }
     }
 
-    /// A number more. `NoMemory` also stands for a sum of more than 2^62 numbers.
+    /// A number more, on a sum of at most 2^64 - 2 numbers.
     #[tactic(auto, using(crate::proofs::Halves::halves))]
-    pub fn plus(&self, n: i128) -> Result<Total, NoMemory>
-        ensures { IfOk result (λ t. t ≡ self.now +ℤ n) }
+    pub fn plus(&self, n: i128) -> Total
+        requires { IsWithin (2 ^ 64 - 2) self.now }
+        ensures { result ≡ self.now +ℤ n }
     {
-        match sum(self.high, n.div_euclid(HALF)) {
-            None => Err(NoMemory),
-            Some(high) => placed(high, self.low + n.rem_euclid(HALF)),
-        }
+        placed(
+            self.high + n.div_euclid(HALF),
+            self.low + n.rem_euclid(HALF),
+        )
     }
 
-    /// A number less. `NoMemory` also stands for a sum of more than 2^62 numbers.
+    /// A number less, of a sum of at most 2^64 - 2 numbers.
     #[tactic(auto, using(crate::proofs::Halves::halves))]
-    pub fn minus(&self, n: i128) -> Result<Total, NoMemory>
-        ensures { IfOk result (λ t. t ≡ self.now -ℤ n) }
+    pub fn minus(&self, n: i128) -> Total
+        requires { IsWithin (2 ^ 64 - 2) self.now }
+        ensures { result ≡ self.now -ℤ n }
     {
-        match difference(self.high, n.div_euclid(HALF)) {
-            None => Err(NoMemory),
-            Some(high) => placed(high, self.low - n.rem_euclid(HALF)),
-        }
+        placed(
+            self.high - n.div_euclid(HALF),
+            self.low - n.rem_euclid(HALF),
+        )
     }
 
-    /// The number with the other sign. `NoMemory` also stands for a sum of more than 2^62 numbers.
-    pub fn opposite(&self) -> Result<Total, NoMemory>
-        ensures { IfOk result (λ t. t ≡ neg_ℤ self.now) }
+    /// The number with the other sign, of a sum of at most 2^64 - 1 numbers.
+    #[tactic(auto, using(crate::proofs::Halves::halves))]
+    pub fn opposite(&self) -> Total
+        requires { IsWithin (2 ^ 64 - 1) self.now }
+        ensures { result ≡ neg_ℤ self.now }
     {
-        match opposite(self.high) {
-            None => Err(NoMemory),
-            Some(high) => placed(high, -self.low),
-        }
+        placed(-self.high, -self.low)
     }
 
     /// Whether it is 0.

@@ -1,10 +1,10 @@
 // Products, sums and quotients of 128 bits.
 
-ghost use Rattle.std.specs.Prelude.{◌≡◌, ◌+ℤ◌, ◌-ℤ◌, ◌*ℤ◌, neg_ℤ, FitsSigned, int_div, int_rem};
+ghost use Rattle.std.specs.Prelude.{◌≡◌, ◌↔◌, IsTrue, ◌+ℤ◌, ◌-ℤ◌, ◌*ℤ◌, neg_ℤ, FitsSigned, int_div, int_rem};
 ghost use Rattle.std.specs.Int.{w128, IsGcd};
 ghost use Rattle.std.specs.Option.{SomeIff};
 ghost use Rattle.chc_nums.specs.Values.{with_value};
-ghost use Rattle.chc_nums.specs.Wide.{in_128, add_product, divided};
+ghost use Rattle.chc_nums.specs.Wide.{in_128, IsShort, add_product, divided};
 
 /// `a * b + c * d`, or none exactly where a product or the sum leaves 128 bits.
 pub fn mul_add(a: i128, b: i128, c: i128, d: i128) -> Option<i128>
@@ -22,12 +22,43 @@ pub fn mul_add_in(a: i128, b: i128, c: i128, d: i128) -> Option<i128>
     sum(first, second)
 }
 
-/// The product, or none where it leaves 128 bits.
+// 2^63
+const SHORT: i128 = 0x8000_0000_0000_0000;
+
+// Whether a number has so few bits that a product of two has 128.
+fn is_short(a: i128) -> bool
+    ensures { IsTrue result ↔ IsShort a }
+{
+    -SHORT <= a && a <= SHORT
+}
+
+#[tactic(auto, using(crate::proofs::Fits::products))]
+fn short_product(a: i128, b: i128) -> i128
+    requires first { IsShort a }
+    requires second { IsShort b }
+    ensures { result ≡ a *ℤ b }
+{
+    a * b
+}
+
 #[tactic(auto, using(crate::proofs::Fits::in_128_of))]
-pub fn product(a: i128, b: i128) -> Option<i128>
+fn long_product(a: i128, b: i128) -> Option<i128>
     ensures { result ≡ in_128 (a *ℤ b) }
 {
     a.checked_mul(b)
+}
+
+/// The product, or none where it leaves 128 bits.
+#[tactic(auto, using(crate::proofs::Fits::products))]
+pub fn product(a: i128, b: i128) -> Option<i128>
+    ensures { result ≡ in_128 (a *ℤ b) }
+{
+    // Most factors are short, and the test of a long product is slow.
+    if is_short(a) && is_short(b) {
+        Some(short_product(a, b))
+    } else {
+        long_product(a, b)
+    }
 }
 
 /// The sum, or none where it leaves 128 bits.
