@@ -6,8 +6,6 @@ mod asking;
 mod goals;
 mod laws;
 mod open;
-#[cfg(test)]
-mod tests;
 
 pub use asking::ask;
 pub use goals::{Answer, ask_goal};

@@ -18,11 +18,12 @@ use Rattle.chc_simplex.specs.Rounds.{number_at, next_step}
 use Rattle.chc_simplex.specs.Endings.{fractions, multiples, numerators, point_of, point, multipliers, variable_sums, constant_sum, zeros, summed, refutation}
 use Rattle.chc_simplex.specs.TableauRun.{width, bounds_of, first_tableau, followed, run_from, or_wide, whole_run, tableau_run}
 use Rattle.chc_simplex.specs.Answers.{Answers}
-use Rattle.chc_simplex.proofs.Orders.{value-some, int_eq-true, same-true, same-is}
+use Rattle.chc_simplex.proofs.Orders.{value-some, int_eq-true}
 use Rattle.chc_simplex.proofs.Soundness.{tableau-answers}
 use Rattle.chc_cert.specs.Passing.{none_negative, is_above, are_gone, passes}
 use Rattle.chc_cert.proofs.Zeros.{length-zeros, zeros-at}
 use Rattle.chc_cert.proofs.Sums.{sums-exact, constant-exact, weighted-past}
+use Rattle.lists.proofs.Tests.{same-true, same-is}
 
 -- ---- what passes refutes
 

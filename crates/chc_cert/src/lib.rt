@@ -9,6 +9,3 @@ mod row_sums;
 
 pub use passing::passes;
 pub use passing_laws::passing_law;
-
-#[cfg(test)]
-mod tests;

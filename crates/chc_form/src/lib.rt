@@ -16,8 +16,6 @@ mod places;
 mod same;
 mod sorts;
 mod system;
-#[cfg(test)]
-mod tests;
 
 pub use conditions::well_made;
 pub use formula::{Derivation, Formula};

@@ -21,7 +21,7 @@ use Rattle.chc_houdini.specs.declared.rounds.Candidate.{Candidate}
 use Rattle.chc_houdini.specs.Drops.{is_named}
 use Rattle.chc_houdini.specs.Rounds.{with_proofs, after_answer, judged_from, judgement, noted, round_from, no_round, round_of}
 use Rattle.chc_houdini.specs.Candidates.{candidates_from, taken, judged_more, turned, judged_by, gathered}
-use Rattle.chc_houdini.proofs.Stops.{FromPlace, from-start, from-head, from-tail}
+use Rattle.lists.proofs.Places.{FromPlace, from-start, from-head, from-tail}
 
 -- ---- one rule
 

@@ -8,6 +8,7 @@ use Rattle.chc_form.specs.declared.lemma.Lemma.{Lemma}
 use Rattle.chc_form.proofs.Entries.{contains-first, contains-later}
 use Rattle.chc_houdini.specs.declared.greatest.RoundStop.{RoundStop}
 use Rattle.chc_houdini.specs.Drops.{is_named, left_from, kept_from}
+use Rattle.lists.proofs.Tests.{less-is, same-is, or-right}
 
 -- all drops are of round i
 abbrev pub AllOf : ℕ → List RoundStop → Type 0
@@ -25,14 +26,8 @@ neither false b true p q = absurd (cc)
 not-less : (m n i : ℕ) → m ≡ i → n ≤ i → nat_lt m n ≡ false
 not-less m n i e h = grind (arith, nat_tests)
 
-less-test : (m n : ℕ) → m < n → nat_lt m n ≡ true
-less-test m n h = grind (arith, nat_tests)
-
 less-later : (m n : ℕ) → nat_lt m n ≡ true → nat_lt m (suc n) ≡ true
 less-later m n h = grind (arith, nat_tests)
-
-same-test : (m n : ℕ) → m ≡ n → (m == n) ≡ true
-same-test m n e = grind (arith, nat_tests)
 
 none-named : (i r k : ℕ) (es : List RoundStop) → AllOf i es → r ≤ i → is_named es r k ≡ false
 none-named i r k [] h below = refl
@@ -58,7 +53,7 @@ both-same false b c d p q = absurd (cc)
 named-all : (i k : ℕ) (ds : List RoundStop) → AllBelow i ds → is_named ds i k ≡ list_any (λ d. d.lemma == k) ds
 named-all i k [] h = refl
 named-all i k (d ∷ ds) h =
-    both-same (nat_lt d.round i) (d.lemma == k) (is_named ds i k) (list_any (λ e. e.lemma == k) ds) (less-test d.round i (h d (contains-first d ds))) (named-all i k ds (λ e there. h e (contains-later d e ds there)))
+    both-same (nat_lt d.round i) (d.lemma == k) (is_named ds i k) (list_any (λ e. e.lemma == k) ds) (less-is d.round i (h d (contains-first d ds))) (named-all i k ds (λ e there. h e (contains-later d e ds there)))
 
 pub left-kept : (i k : ℕ) (ds : List RoundStop) (cs : List Lemma) → AllBelow i ds → left_from ds i k cs ≡ kept_from ds k cs
 left-kept i k ds [] h = refl
@@ -69,16 +64,12 @@ pub named-there : (ds : List RoundStop) (i k : ℕ) (d : RoundStop) → Contains
 named-there ds i k d h below same =
     let test : RoundStop → Bool = λ e. nat_lt e.round i && (e.lemma == k) in
     let P : RoundStop → Type 0 = λ e. test e ≡ true in
-    list_any_at test ds h.0 d h.1 (subst P (sym h.2) (and_from (nat_lt d.round i) (d.lemma == k) (less-test d.round i below) (same-test d.lemma k same)))
-
-either-true : (a b : Bool) → b ≡ true → (a || b) ≡ true
-either-true true b h = refl
-either-true false b h = h
+    list_any_at test ds h.0 d h.1 (subst P (sym h.2) (and_from (nat_lt d.round i) (d.lemma == k) (less-is d.round i below) (same-is d.lemma k same)))
 
 either-later : (a b c d e : Bool) → (a ≡ true → d ≡ true) → (c ≡ true → e ≡ true) → ((a && b) || c) ≡ true → ((d && b) || e) ≡ true
 either-later true true c d e f g h = let p = f refl in rw p refl
-either-later true false c d e f g h = let p = g h in either-true (d && false) e p
-either-later false b c d e f g h = let p = g h in either-true (d && b) e p
+either-later true false c d e f g h = let p = g h in or-right (d && false) e p
+either-later false b c d e f g h = let p = g h in or-right (d && b) e p
 
 -- what is named stays named in the next round
 pub named-later : (ds es : List RoundStop) (i k : ℕ) → is_named ds i k ≡ true → is_named (ds ++ es) (suc i) k ≡ true

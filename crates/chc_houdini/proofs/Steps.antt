@@ -23,7 +23,9 @@ use Rattle.chc_houdini.specs.Proofs.{AllAsked}
 use Rattle.chc_houdini.specs.Rounds.{no_round, round_of}
 use Rattle.chc_houdini.proofs.Below.{RightBelow, AllDropped}
 use Rattle.chc_houdini.proofs.Named.{AllOf, named-more, left-more, left-kept, named-there, named-later, fewer}
-use Rattle.chc_houdini.proofs.Stops.{from-start, less-or-same, append-none, IsShown, IsStop, IsDropped, stops_from, proofs_from, round-drops, round-proofs, proofs-asked, each-stop, stops-order, found}
+use Rattle.lists.proofs.Places.{from-start, less-or-same}
+use Rattle.chc_houdini.proofs.Stops.{IsShown, IsStop, IsDropped, stops_from, proofs_from, round-drops, round-proofs, proofs-asked, each-stop, stops-order, found}
+use Rattle.std.proofs.lemmas.List.{append-nil}
 
 -- ---- order
 
@@ -232,7 +234,7 @@ fewer-left s l candidates ds i some =
 pub right-last : (s : System) (l : Limits) (candidates : List Lemma) (ds : List RoundStop) (i : ℕ) → well_made s ≡ true → (length (this_round s l candidates ds i).drops == 0) ≡ true → RightBelow s l candidates ds i → RightDrops s l candidates ds i
 right-last s l candidates ds i w none h =
     let e : new_drops s l candidates ds i ≡ [] = sym (new-is s l candidates ds i) ∙ none-of (this_round s l candidates ds i).drops none in
-    let same : ds ++ new_drops s l candidates ds i ≡ ds = ap (λ (es : List RoundStop). ds ++ es) e ∙ append-none ds in
+    let same : ds ++ new_drops s l candidates ds i ≡ ds = ap (λ (es : List RoundStop). ds ++ es) e ∙ append-nil ds in
     record {
       order = h.order;
       once = drops-once s l candidates ds h.order h.each;

@@ -24,34 +24,10 @@ use Rattle.chc_houdini.specs.declared.rounds.Round.{Round}
 use Rattle.chc_houdini.specs.Drops.{is_named, left_from, IsQuery, InOrder}
 use Rattle.chc_houdini.specs.Proofs.{AllAsked}
 use Rattle.chc_houdini.specs.Rounds.{with_proofs, after_answer, judged_from, judgement, noted, round_from}
+use Rattle.lists.proofs.Places.{FromPlace, from-start, from-head, from-tail, from-end, less-or-same}
+use Rattle.std.proofs.lemmas.List.{append-nil}
 
 -- ---- lists from a place on
-
--- the second list is what the first has from place k on
-abbrev pub FromPlace : {A : Type 0} → List A → ℕ → List A → Type 0
-FromPlace xs k ys = (m : ℕ) → slice_get ys m ≡ slice_get xs (k + m)
-
-pub from-start : {A : Type 0} (xs : List A) → FromPlace xs 0 xs
-from-start {A} xs m = let e : 0 + m ≡ m = omega arith in rw e refl
-
-pub from-head : {A : Type 0} (xs : List A) (k : ℕ) (y : A) (ys : List A) → FromPlace xs k (y ∷ ys) → slice_get xs k ≡ Some y
-from-head {A} xs k y ys h = let e : k + 0 ≡ k = omega arith in ap (slice_get xs) (sym e) ∙ sym (h 0)
-
-pub from-tail : {A : Type 0} (xs : List A) (k : ℕ) (y : A) (ys : List A) → FromPlace xs k (y ∷ ys) → FromPlace xs (suc k) ys
-from-tail {A} xs k y ys h m = let e : k + suc m ≡ suc k + m = omega arith in h (suc m) ∙ ap (slice_get xs) e
-
-pub less-or-same : (m n : ℕ) → m ≤ n → (m < n) ⊎ (m ≡ n)
-less-or-same m n h =
-    elim (cases_lt m n) [
-      | inl less ↦ inl less
-      | inr past ↦ inr (omega arith)
-    ]
-
-pub from-end : {A : Type 0} (xs : List A) (k n : ℕ) (x : A) → FromPlace xs k [] → k ≤ n → slice_get xs n ≡ Some x → ⊥
-from-end {A} xs k n x h above e =
-    let p : k + (n - k) ≡ n = omega arith in
-    let none : None ≡ slice_get xs n = h (n - k) ∙ ap (slice_get xs) p in
-    absurd (cc)
 
 -- ---- judgements
 
@@ -165,12 +141,8 @@ drops-turn i k true sofar x rest = refl
 drops-turn i k false sofar (judged.Shown ps) rest = refl
 drops-turn i k false sofar (judged.Stopped j o) rest = append_assoc sofar.drops ((record { round = i; lemma = k; rule = j; left = o }) ∷ []) rest
 
-pub append-none : {A : Type 0} (xs : List A) → xs ++ [] ≡ xs
-append-none {A} [] = refl
-append-none {A} (x ∷ xs) = ap (λ ys. x ∷ ys) (append-none xs)
-
 pub round-drops : (s : System) (l : Limits) (have : List Lemma) (earlier : List RoundStop) (i : ℕ) (sofar : Round) (k : ℕ) (cs : List Lemma) → (round_from s l have earlier i sofar k cs).drops ≡ sofar.drops ++ stops_from s l have earlier i k cs
-round-drops s l have earlier i sofar k [] = sym (append-none sofar.drops)
+round-drops s l have earlier i sofar k [] = sym (append-nil sofar.drops)
 round-drops s l have earlier i sofar k (c ∷ cs) =
     round-drops s l have earlier i (if is_named earlier i k then sofar else noted i k sofar (judgement s l have c)) (suc k) cs
     ∙ drops-turn i k (is_named earlier i k) sofar (judgement s l have c) (stops_from s l have earlier i (suc k) cs)
@@ -186,7 +158,7 @@ proofs-turn i k false sofar (judged.Shown ps) rest more h = append_assoc sofar.p
 proofs-turn i k false sofar (judged.Stopped j o) rest more h = absurd (cc)
 
 pub round-proofs : (s : System) (l : Limits) (have : List Lemma) (earlier : List RoundStop) (i : ℕ) (sofar : Round) (k : ℕ) (cs : List Lemma) → stops_from s l have earlier i k cs ≡ [] → (round_from s l have earlier i sofar k cs).proofs ≡ sofar.proofs ++ proofs_from s l have earlier i k cs
-round-proofs s l have earlier i sofar k [] h = sym (append-none sofar.proofs)
+round-proofs s l have earlier i sofar k [] h = sym (append-nil sofar.proofs)
 round-proofs s l have earlier i sofar k (c ∷ cs) h =
     round-proofs s l have earlier i (if is_named earlier i k then sofar else noted i k sofar (judgement s l have c)) (suc k) cs (none-later i k (is_named earlier i k) (judgement s l have c) (stops_from s l have earlier i (suc k) cs) h)
     ∙ proofs-turn i k (is_named earlier i k) sofar (judgement s l have c) (stops_from s l have earlier i (suc k) cs) (proofs_from s l have earlier i (suc k) cs) h

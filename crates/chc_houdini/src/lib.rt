@@ -6,8 +6,6 @@
 mod greatest;
 mod laws;
 mod rounds;
-#[cfg(test)]
-mod tests;
 
 pub use greatest::{Greatest, RoundStop, greatest_of};
 pub use laws::kept_law;

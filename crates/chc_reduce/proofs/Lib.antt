@@ -7,3 +7,4 @@ pub mod Sums
 pub mod Ordered
 pub mod Truthful
 pub mod Goals
+pub mod Bounds

@@ -6,7 +6,7 @@ use Rattle.std.proofs.lemmas.Bool.{cases_lt, cases_eq}
 use lib.IntN.{ℤ}
 use Rattle.chc_nums.specs.Wide.{in_128}
 use Rattle.chc_nums.proofs.Fits.{in_128-value}
-use Rattle.chc_nums.proofs.Ring.{add-mul, zero-mul}
+use Rattle.chc_nums.proofs.Ring.{add-mul, zero-mul, neg-mul}
 use Rattle.chc_nums.specs.Values.{with_value}
 use Rattle.chc_form.specs.declared.linear.Lin.{Lin}
 use Rattle.chc_form.specs.declared.system.App.{App}
@@ -175,16 +175,9 @@ literal-value p l s v ks e =
 
 -- ---- opposites
 
-neg-times : (a b : ℤ) → neg_ℤ a *ℤ b ≡ neg_ℤ (a *ℤ b)
-neg-times a b =
-    let z : (neg_ℤ a +ℤ a) *ℤ b ≡ (neg_ℤ a *ℤ b) +ℤ (a *ℤ b) = add-mul (neg_ℤ a) a b in
-    let n : neg_ℤ a +ℤ a ≡ pos 0 = omega (arith, ints) in
-    let k : (neg_ℤ a +ℤ a) *ℤ b ≡ pos 0 = ap (λ (y : ℤ). y *ℤ b) n ∙ zero-mul b in
-    omega (arith, ints, z, k)
-
 opposite-terms-sum : (ts : List (ℕ × ℤ)) (y : ℕ → ℤ) → sum_of (opposite_terms ts) y ≡ neg_ℤ (sum_of ts y)
 opposite-terms-sum [] y = refl
-opposite-terms-sum (t ∷ ts) y = omega (arith, ints, neg-times t.1 (y t.0), opposite-terms-sum ts y)
+opposite-terms-sum (t ∷ ts) y = omega (arith, ints, neg-mul t.1 (y t.0), opposite-terms-sum ts y)
 
 pub opposite-value : (p : App) (l : Lit) (s : Lin) (v : Valuation) (ks : List ℤ) → opposite_sum p l ≡ Some s → value_of s v.number ≡ pos 1 -ℤ lit_value (at_atom v p) ks l
 unfolding opposite_sum

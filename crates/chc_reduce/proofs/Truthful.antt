@@ -32,6 +32,8 @@ use Rattle.chc_reduce.specs.Literals.{literal_sum, opposite_sum}
 use Rattle.chc_reduce.specs.Reduced.{lower, upper, range_of, ranges, at_most, refuted, granted, goal_parts, constraint, instance_of, instances_at, instances, reduced_rule, reduced_query, reduced_rule_at, reduced_query_at, reduced}
 use Rattle.chc_reduce.proofs.Satisfying.{above_not}
 use Rattle.chc_reduce.proofs.Sums.{literal-value, opposite-value}
+use Rattle.chc_nums.proofs.Ring.{minus-mul}
+use Rattle.lists.proofs.Tests.{or-left, or-right}
 
 -- all formulas are true at these whole numbers
 abbrev AllTrue : (ℕ → ℤ) → List Formula → Type 0
@@ -58,9 +60,6 @@ times-one z = omega (arith, ints)
 one-times : (z : ℤ) → pos 1 *ℤ z ≡ z
 one-times z = omega (arith, ints)
 
-minus-times : (z : ℤ) → negsuc 0 *ℤ z ≡ neg_ℤ z
-minus-times z = omega (arith, ints)
-
 le-true : (x : ℕ → ℤ) (l : Lin) → value_of l x ≤ℤ pos 0 → TrueAt x (Le l)
 le-true x l h = frac_true-Le x (pos 1) l ∙ above_not (sum_of l.terms x +ℤ (l.konst *ℤ pos 1)) (omega (arith, ints, times-one l.konst, h))
 
@@ -68,7 +67,7 @@ le-true x l h = frac_true-Le x (pos 1) l ∙ above_not (sum_of l.terms x +ℤ (l
 
 range-true : (v : Valuation) (x : ℕ) (t : Ty) → InRange t (v.number x) → TrueAt v.number (range_of x t)
 range-true v x t h =
-    let low : value_of (lower x t) v.number ≤ℤ pos 0 = omega (arith, ints, minus-times (v.number x), h.0) in
+    let low : value_of (lower x t) v.number ≤ℤ pos 0 = omega (arith, ints, minus-mul (v.number x), h.0) in
     let high : value_of (upper x t) v.number ≤ℤ pos 0 = omega (arith, ints, one-times (v.number x), h.1) in
     and-true v.number (Le (lower x t) ∷ Le (upper x t) ∷ []) (all-more v.number (Le (lower x t)) (Le (upper x t) ∷ []) (le-true v.number (lower x t) low) (all-more v.number (Le (upper x t)) [] (le-true v.number (upper x t) high) refl))
 
@@ -147,18 +146,10 @@ goal-true v p goal never = goals-true v p goal.lits (λ h. never (λ ks fit. h k
 
 -- ---- lemmas of the body's atoms
 
-or-first : (a b : Bool) → a ≡ true → (a || b) ≡ true
-or-first true b h = refl
-or-first false b h = absurd (cc)
-
-or-second : (a b : Bool) → b ≡ true → (a || b) ≡ true
-or-second true b h = refl
-or-second false b h = h
-
 one-true : (v : Valuation) (p : App) (ks : List ℤ) (ls : List Lit) → OneHolds (at_atom v p) ks ls → list_any (λ b. b) (map (frac_true v.number (pos 1)) (map (granted p) ls)) ≡ true
 one-true v p ks [] h = absurd h
-one-true v p ks (l ∷ ls) (inl h) = or-first (frac_true v.number (pos 1) (granted p l)) (list_any (λ b. b) (map (frac_true v.number (pos 1)) (map (granted p) ls))) (granted-true v p l ks h)
-one-true v p ks (l ∷ ls) (inr h) = or-second (frac_true v.number (pos 1) (granted p l)) (list_any (λ b. b) (map (frac_true v.number (pos 1)) (map (granted p) ls))) (one-true v p ks ls h)
+one-true v p ks (l ∷ ls) (inl h) = or-left (frac_true v.number (pos 1) (granted p l)) (list_any (λ b. b) (map (frac_true v.number (pos 1)) (map (granted p) ls))) (granted-true v p l ks h)
+one-true v p ks (l ∷ ls) (inr h) = or-right (frac_true v.number (pos 1) (granted p l)) (list_any (λ b. b) (map (frac_true v.number (pos 1)) (map (granted p) ls))) (one-true v p ks ls h)
 
 instance-true : (v : Valuation) (p : App) (l : Lemma) (keys : List Ty) → l.keys ≡ keys → LemmaAt (at_atom v p) l → AllTrue v.number (instance_of p l keys)
 instance-true v p l [] e h =

@@ -4,6 +4,7 @@ use Rattle.std.specs.Prelude.{ℕ, ◌==◌, nat_lt, List, [], ◌∷◌, Option
 use lib.IntN.{ℤ}
 use Rattle.std.specs.Ordering.{int_eq}
 use Rattle.chc_nums.specs.Wide.{in_128}
+use Rattle.chc_nums.specs.Totals.{IsWithin}
 use Rattle.chc_nums.specs.Values.{with_value}
 use Rattle.chc_form.specs.declared.linear.Lin.{Lin}
 use Rattle.chc_form.specs.declared.system.App.{App}
@@ -26,6 +27,11 @@ raised x a (t ∷ ts) =
     then put_term x (t.1 +ℤ a) ts
     else t ∷ raised x a ts
     )
+
+-- each coefficient is no further from 0 than a sum of so many numbers of 128 bits
+abbrev pub AreWithin : ℕ → List (ℕ × ℤ) → Type 0
+AreWithin k [] = Unit {0}
+AreWithin k (t ∷ ts) = IsWithin k t.1 × AreWithin k ts
 
 -- the variable that is the argument of a term; none for a bound key and for what a mapping holds
 abbrev pub variable_of : App → LitTerm → Option ℕ

@@ -8,8 +8,6 @@ mod literals;
 mod premises;
 mod reduction;
 mod shape;
-#[cfg(test)]
-mod tests;
 
 pub use laws::{order_law, reduction_law, rows_law};
 pub use premises::{Premises, goal_rows};

@@ -1,7 +1,7 @@
 // Literals at the arguments of atoms.
 
-ghost use Rattle.std.specs.Prelude.{◌≡◌, ◌++◌, [], ◌-ℤ◌, pos, IfOk};
-ghost use Rattle.chc_reduce.specs.Literals.{put_term, raised, variable_of, terms_onto, narrowed_terms, narrowed, literal_sum, opposite_terms, opposite_sum};
+ghost use Rattle.std.specs.Prelude.{◌≡◌, ◌++◌, [], ◌-◌, ◌^◌, ◌-ℤ◌, pos, IfOk, IfSome};
+ghost use Rattle.chc_reduce.specs.Literals.{AreWithin, put_term, raised, variable_of, terms_onto, narrowed_terms, narrowed, literal_sum, opposite_terms, opposite_sum};
 
 use chc_form::{App, Lin, Lit, LitTerm};
 use chc_nums::{List, NoMemory, Total};
@@ -27,13 +27,14 @@ fn finish(
 }
 
 // A variable's coefficient raised, where terms stand by ascending variables.
-#[tactic(auto, using(crate::proofs::Terms::turns))]
+#[tactic(auto, using(crate::proofs::Terms::turns, crate::proofs::Bounds::places))]
 fn raise(
     alloc: Global,
     x: u32,
     a: &i128,
     terms: &[(u32, Total)],
 ) -> Result<List<(u32, Total)>, NoMemory>
+    requires { AreWithin (2 ^ 64 - 2) terms.now }
     ensures { IfOk result (λ ts. ts ≡ raised x a.now terms.now) }
 {
     let mut made = List::new(alloc);
@@ -43,7 +44,7 @@ fn raise(
             return finish(made, x, Total::new(*a), rest);
         }
         if x == term.0 {
-            return finish(made, x, term.1.plus(*a)?, more);
+            return finish(made, x, term.1.plus(*a), more);
         }
         made.push((term.0, term.1.copy()))?;
         rest = more;
@@ -61,13 +62,15 @@ fn variable_of(atom: &App, term: &LitTerm) -> Option<u32>
     }
 }
 
-// The terms of a literal at an atom's arguments.
+// The terms of a literal at an atom's arguments, of which there are fewer than 2^64.
+#[tactic(auto, using(crate::proofs::Bounds::sums))]
 fn terms_at(
     alloc: Global,
     atom: &App,
     terms: &[(LitTerm, i128)],
 ) -> Result<Option<List<(u32, Total)>>, NoMemory>
-    ensures { IfOk result (λ o. o ≡ terms_onto atom.now [] terms.now) }
+    ensures value { IfOk result (λ o. o ≡ terms_onto atom.now [] terms.now) }
+    ensures small { IfOk result (λ o. IfSome o (λ ts. AreWithin (2 ^ 64 - 1) ts)) }
 {
     let mut made = List::new(alloc);
     let mut rest = terms;
@@ -75,7 +78,8 @@ fn terms_at(
         let Some(x) = variable_of(atom, &term.0) else {
             return Ok(None);
         };
-        made = raise(alloc, x, &term.1, made.as_slice())?;
+        let a = term.1;
+        made = raise(alloc, x, &a, made.as_slice())?;
         rest = more;
     }
     Ok(Some(made))
@@ -126,22 +130,23 @@ pub fn literal_sum(alloc: Global, atom: &App, literal: &Lit) -> Result<Option<Li
 }
 
 // Terms with the other sign.
-#[tactic(auto, using(crate::proofs::Terms::narrows))]
+#[tactic(auto, using(crate::proofs::Terms::narrows, crate::proofs::Bounds::places))]
 fn opposite_terms(alloc: Global, terms: &[(u32, Total)]) -> Result<List<(u32, Total)>, NoMemory>
+    requires { AreWithin (2 ^ 64 - 1) terms.now }
     ensures { IfOk result (λ ts. ts ≡ opposite_terms terms.now) }
 {
     let mut made = List::new(alloc);
     let mut rest = terms;
     while let [term, more @ ..] = rest {
-        made.push((term.0, term.1.opposite()?))?;
+        made.push((term.0, term.1.opposite()))?;
         rest = more;
     }
     Ok(made)
 }
 
 // 1 less a number.
-fn one_less(n: i128) -> Result<Total, NoMemory>
-    ensures { IfOk result (λ t. t ≡ pos 1 -ℤ n) }
+fn one_less(n: i128) -> Total
+    ensures { result ≡ pos 1 -ℤ n }
 {
     Total::new(1).minus(n)
 }
@@ -156,7 +161,7 @@ pub fn opposite_sum(alloc: Global, atom: &App, literal: &Lit) -> Result<Option<L
         None => Ok(None),
         Some(terms) => {
             let others = opposite_terms(alloc, terms.as_slice())?;
-            narrowed(alloc, others.as_slice(), &one_less(literal.konst)?)
+            narrowed(alloc, others.as_slice(), &one_less(literal.konst))
         }
     }
 }

@@ -9,7 +9,7 @@ use Rattle.std.proofs.lemmas.Int.{ints, by_lt_z}
 use Rattle.std.proofs.lemmas.Nat.Gcd.{dvd_trans, dvd_refl}
 use Rattle.chc_nums.specs.Wide.{in_128}
 use Rattle.chc_nums.proofs.Fits.{in_128-value}
-use Rattle.chc_nums.proofs.Ring.{mul-add, mul-assoc, mul-comm, zero-mul, mul-nonneg-nonpos}
+use Rattle.chc_nums.proofs.Ring.{mul-add, mul-assoc, mul-comm, zero-mul, mul-nonneg-nonpos, mul-neg}
 use Rattle.chc_nums.specs.Values.{with_value}
 use Rattle.chc_form.specs.Linear.{sum_of}
 use Rattle.chc_simplex.specs.declared.data.Line.{Line}
@@ -47,11 +47,6 @@ pub cancel-le : (g a b : ℤ) → pos 1 ≤ℤ g → (g *ℤ a) ≤ℤ (g *ℤ b
 cancel-le g a b h e = by_lt_z {P = a ≤ℤ b} b a (λ l. absurd (omega (arith, ints, e, scale-less g b a h l))) (λ m. m)
 
 -- ---- exact quotients
-
-mul-neg : (a b : ℤ) → a *ℤ neg_ℤ b ≡ neg_ℤ (a *ℤ b)
-mul-neg a b =
-    let none : b +ℤ neg_ℤ b ≡ pos 0 = omega (arith, ints) in
-    omega (arith, ints, mul-add a b (neg_ℤ b), ap (λ (y : ℤ). a *ℤ y) none, mul-comm a (pos 0), zero-mul a)
 
 pub exact : (a : ℤ) (g : ℕ) → g ∣ unsigned_abs a → pos g *ℤ int_div a (pos g) ≡ a
 exact (pos a) g h = ap pos (mul-div_cancel' g h)

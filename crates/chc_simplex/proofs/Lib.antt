@@ -1,7 +1,7 @@
 pub mod Steps
 pub mod Merging
 pub mod Rewriting
-pub mod Marking
+pub mod AboveFlags
 pub mod Turns
 pub mod Orders
 pub mod Division

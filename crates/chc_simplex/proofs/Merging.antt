@@ -8,6 +8,7 @@ use Rattle.chc_nums.specs.Wide.{in_128}
 use Rattle.chc_nums.specs.Values.{with_value}
 use Rattle.chc_simplex.specs.Outcomes.{joined}
 use Rattle.chc_simplex.specs.Terms.{Terms, term, pushed, put_before, both, scaled, merged, scaled_onto, merged_onto}
+use Rattle.lists.proofs.Tests.{less-is, less-not}
 
 -- ---- one term more at the end
 
@@ -43,12 +44,6 @@ scaled-wide made c v a ts h = pushed-not made v (in_128 (c *ℤ a)) (scaled c ts
 
 -- ---- two sums
 
-test-less : (v w : ℕ) → v < w → nat_lt v w ≡ true
-test-less v w h = grind (arith, nat_tests)
-
-test-not : (v w : ℕ) → w ≤ v → nat_lt v w ≡ false
-test-not v w h = grind (arith, nat_tests)
-
 pub merged-start : (p c : ℤ) (ts us : Terms) → merged_onto [] p c ts us ≡ merged p c ts us
 unfolding merged_onto
 merged-start p c ts us = elim (merged p c ts us) as (λ o. joined [] o ≡ o) [ None ↦ refl | Some x ↦ refl ]
@@ -63,17 +58,17 @@ merged-last made now p c v a ts h = sym (pushed-before made now v (in_128 (p *�
 
 pub merged-left : (made now : Terms) (p c : ℤ) (v : ℕ) (a : ℤ) (ts : Terms) (w : ℕ) (b : ℤ) (us : Terms) → v < w → pushed made v (in_128 (p *ℤ a)) ≡ Some now → merged_onto made p c ((v, a) ∷ ts) ((w, b) ∷ us) ≡ merged_onto now p c ts ((w, b) ∷ us)
 unfolding merged merged_onto
-merged-left made now p c v a ts w b us l h = rw (test-less v w l) (sym (pushed-before made now v (in_128 (p *ℤ a)) (merged p c ts ((w, b) ∷ us)) h))
+merged-left made now p c v a ts w b us l h = rw (less-is v w l) (sym (pushed-before made now v (in_128 (p *ℤ a)) (merged p c ts ((w, b) ∷ us)) h))
 
 pub merged-right : (made now : Terms) (p c : ℤ) (v : ℕ) (a : ℤ) (ts : Terms) (w : ℕ) (b : ℤ) (us : Terms) → w < v → pushed made w (in_128 (c *ℤ b)) ≡ Some now → merged_onto made p c ((v, a) ∷ ts) ((w, b) ∷ us) ≡ merged_onto now p c ((v, a) ∷ ts) us
 unfolding merged merged_onto
 merged-right made now p c v a ts w b us l h =
     let n : w ≤ v = omega arith in
-    rw (test-not v w n, test-less w v l) (sym (pushed-before made now w (in_128 (c *ℤ b)) (merged p c ((v, a) ∷ ts) us) h))
+    rw (less-not v w n, less-is w v l) (sym (pushed-before made now w (in_128 (c *ℤ b)) (merged p c ((v, a) ∷ ts) us) h))
 
 pub merged-both : (made now : Terms) (p c : ℤ) (v : ℕ) (a : ℤ) (ts : Terms) (w : ℕ) (b : ℤ) (us : Terms) → w ≤ v → v ≤ w → pushed made v (both p a c b) ≡ Some now → merged_onto made p c ((v, a) ∷ ts) ((w, b) ∷ us) ≡ merged_onto now p c ts us
 unfolding merged merged_onto
-merged-both made now p c v a ts w b us l m h = rw (test-not v w l, test-not w v m) (sym (pushed-before made now v (both p a c b) (merged p c ts us) h))
+merged-both made now p c v a ts w b us l m h = rw (less-not v w l, less-not w v m) (sym (pushed-before made now v (both p a c b) (merged p c ts us) h))
 
 pub merged-last_wide : (made : Terms) (p c : ℤ) (v : ℕ) (a : ℤ) (ts : Terms) → pushed made v (in_128 (p *ℤ a)) ≡ None → merged_onto made p c ((v, a) ∷ ts) [] ≡ None
 unfolding merged merged_onto
@@ -81,17 +76,17 @@ merged-last_wide made p c v a ts h = pushed-not made v (in_128 (p *ℤ a)) (merg
 
 pub merged-left_wide : (made : Terms) (p c : ℤ) (v : ℕ) (a : ℤ) (ts : Terms) (w : ℕ) (b : ℤ) (us : Terms) → v < w → pushed made v (in_128 (p *ℤ a)) ≡ None → merged_onto made p c ((v, a) ∷ ts) ((w, b) ∷ us) ≡ None
 unfolding merged merged_onto
-merged-left_wide made p c v a ts w b us l h = rw (test-less v w l) (pushed-not made v (in_128 (p *ℤ a)) (merged p c ts ((w, b) ∷ us)) h)
+merged-left_wide made p c v a ts w b us l h = rw (less-is v w l) (pushed-not made v (in_128 (p *ℤ a)) (merged p c ts ((w, b) ∷ us)) h)
 
 pub merged-right_wide : (made : Terms) (p c : ℤ) (v : ℕ) (a : ℤ) (ts : Terms) (w : ℕ) (b : ℤ) (us : Terms) → w < v → pushed made w (in_128 (c *ℤ b)) ≡ None → merged_onto made p c ((v, a) ∷ ts) ((w, b) ∷ us) ≡ None
 unfolding merged merged_onto
 merged-right_wide made p c v a ts w b us l h =
     let n : w ≤ v = omega arith in
-    rw (test-not v w n, test-less w v l) (pushed-not made w (in_128 (c *ℤ b)) (merged p c ((v, a) ∷ ts) us) h)
+    rw (less-not v w n, less-is w v l) (pushed-not made w (in_128 (c *ℤ b)) (merged p c ((v, a) ∷ ts) us) h)
 
 pub merged-both_wide : (made : Terms) (p c : ℤ) (v : ℕ) (a : ℤ) (ts : Terms) (w : ℕ) (b : ℤ) (us : Terms) → w ≤ v → v ≤ w → pushed made v (both p a c b) ≡ None → merged_onto made p c ((v, a) ∷ ts) ((w, b) ∷ us) ≡ None
 unfolding merged merged_onto
-merged-both_wide made p c v a ts w b us l m h = rw (test-not v w l, test-not w v m) (pushed-not made v (both p a c b) (merged p c ts us) h)
+merged-both_wide made p c v a ts w b us l m h = rw (less-not v w l, less-not w v m) (pushed-not made v (both p a c b) (merged p c ts us) h)
 
 pub ruleset merges = (
   to_z-of_z,

@@ -11,6 +11,8 @@ use Rattle.chc_nums.proofs.Ring.{mul-add, add-mul, mul-assoc, mul-comm, zero-mul
 use Rattle.chc_nums.specs.Values.{with_value}
 use Rattle.chc_form.specs.Linear.{sum_of}
 use Rattle.chc_simplex.specs.Terms.{Terms, coefficient, others, term, put_before, both, scaled, placed_term, merged}
+use Rattle.lists.proofs.Tests.{same-true, same-false, less-true, less-false, same-not}
+use Rattle.std.proofs.lemmas.Bool.{cases_Bool}
 
 -- ---- cases
 
@@ -18,33 +20,11 @@ pub value-some : {A B : Type 0} (o : Option A) (go : A → Option B) (z : B) →
 value-some None go z h = absurd (cc)
 value-some (Some a) go z h = (a, refl, h)
 
-pub true-or_false : (b : Bool) → (b ≡ true) ⊎ (b ≡ false)
-true-or_false true = inl refl
-true-or_false false = inr refl
-
 pub int_eq-true : (a : ℤ) → int_eq a (pos 0) ≡ true → a ≡ pos 0
 int_eq-true a h = grind (arith, ints)
 
 pub int_eq-false : (a : ℤ) → int_eq a (pos 0) ≡ false → a ≢ pos 0
 int_eq-false a h e = grind (arith, ints)
-
-pub same-true : (v w : ℕ) → (v == w) ≡ true → v ≡ w
-same-true v w h = grind (arith, nat_tests)
-
-pub same-false : (v w : ℕ) → (v == w) ≡ false → v ≢ w
-same-false v w h e = grind (arith, nat_tests)
-
-pub less-true : (v w : ℕ) → nat_lt v w ≡ true → v < w
-less-true v w h = grind (arith, nat_tests)
-
-pub less-false : (v w : ℕ) → nat_lt v w ≡ false → w ≤ v
-less-false v w h = grind (arith, nat_tests)
-
-pub same-is : (v w : ℕ) → v ≡ w → (v == w) ≡ true
-same-is v w h = grind (arith, nat_tests)
-
-pub same-not : (v w : ℕ) → v ≢ w → (v == w) ≡ false
-same-not v w h = grind (arith, nat_tests)
 
 -- ---- order
 
@@ -70,14 +50,14 @@ put-some v (Some a) (Some ts) rs h = (a, ts, refl, refl, cc)
 
 term-sum : (v : ℕ) (a : ℤ) (ts : Terms) (z : ℕ → ℤ) → sum_of (term v a ++ ts) z ≡ (a *ℤ z v) +ℤ sum_of ts z
 term-sum v a ts z =
-    elim (true-or_false (int_eq a (pos 0))) [
+    elim (cases_Bool (int_eq a (pos 0))) [
       | inl e ↦ rw e (omega (arith, ints, ap (λ (y : ℤ). y *ℤ z v) (int_eq-true a e), zero-mul (z v)))
       | inr e ↦ rw e refl
     ]
 
 term-within : (P : ℕ → Type 0) (k v : ℕ) (a : ℤ) (ts : Terms) → k ≤ v → P v → Within P (suc v) ts → Within P k (term v a ++ ts)
 term-within P k v a ts h p w =
-    elim (true-or_false (int_eq a (pos 0))) [
+    elim (cases_Bool (int_eq a (pos 0))) [
       | inl e ↦ rw e (Within-from P k (suc v) ts (omega arith) w)
       | inr e ↦ rw e (h, int_eq-false a e, p, w)
     ]
@@ -139,14 +119,14 @@ placed-is P z p c t ts merge ih [] k rs w u h =
     put-made P z k t.0 x.0 x.1 rs _ _ w.0 w.2 (ih [] (suc t.0) x.1 w.3 tt x.3) x.4
     (left-step p c t.1 (z t.0) (sum_of ts z) (pos 0) x.0 _ (in_128-value (p *ℤ t.1) x.0 x.2) refl)
 placed-is P z p c t ts merge ih (u ∷ us) k rs w v h =
-    elim (true-or_false (nat_lt t.0 u.0)) [
+    elim (cases_Bool (nat_lt t.0 u.0)) [
       | inl e ↦
           let x = put-some t.0 (in_128 (p *ℤ t.1)) (merge (u ∷ us)) rs (rw e at h) in
           put-made P z k t.0 x.0 x.1 rs _ _ w.0 w.2 (ih (u ∷ us) (suc t.0) x.1 w.3 (omega (arith, less-true t.0 u.0 e), v.1, v.2, v.3) x.3) x.4
           (left-step p c t.1 (z t.0) (sum_of ts z) (sum_of (u ∷ us) z) x.0 _ (in_128-value (p *ℤ t.1) x.0 x.2) refl)
       | inr e ↦
           let h1 = rw e at h in
-          elim (true-or_false (nat_lt u.0 t.0)) [
+          elim (cases_Bool (nat_lt u.0 t.0)) [
             | inl f ↦
                 let x = put-some u.0 (in_128 (c *ℤ u.1)) (placed_term p c t merge us) rs (rw f at h1) in
                 put-made P z k u.0 x.0 x.1 rs _ _ v.0 v.2
@@ -180,7 +160,7 @@ pub others-is : (P : ℕ → Type 0) (z : ℕ → ℤ) (k e : ℕ) (ts : Terms) 
 others-is P z k e [] w = (tt, omega (arith, ints, zero-mul (z e)))
 others-is P z k e (t ∷ ts) w =
     let i = others-is P z (suc t.0) e ts w.3 in
-    elim (true-or_false (t.0 == e)) [
+    elim (cases_Bool (t.0 == e)) [
       | inl q ↦
           let same : t.0 ≡ e = same-true t.0 e q in
           let none : coefficient ts e ≡ pos 0 = coefficient-past P (suc t.0) e ts (omega arith) w.3 in
@@ -195,7 +175,7 @@ others-is P z k e (t ∷ ts) w =
 pub absent-is : (P : ℕ → Type 0) (k e : ℕ) (ts : Terms) → Within P k ts → coefficient ts e ≡ pos 0 → Within (λ v. P v × (v ≢ e)) k ts
 absent-is P k e [] w h = tt
 absent-is P k e (t ∷ ts) w h =
-    elim (true-or_false (t.0 == e)) [
+    elim (cases_Bool (t.0 == e)) [
       | inl q ↦ absurd (w.1 (rw q at h))
       | inr q ↦ (w.0, w.1, (w.2, same-false t.0 e q), absent-is P (suc t.0) e ts w.3 (rw q at h))
     ]

@@ -9,14 +9,15 @@ use Rattle.std.proofs.lemmas.List.{get_or-set_same, get_or-set_other}
 use Rattle.std.proofs.lemmas.Option.{unwrap_or-slice_get}
 use Rattle.chc_nums.specs.Wide.{in_128}
 use Rattle.chc_nums.proofs.Fits.{in_128-value}
-use Rattle.chc_nums.proofs.Ring.{mul-add, add-mul, mul-assoc, mul-comm, zero-mul}
+use Rattle.chc_nums.proofs.Ring.{mul-add, add-mul, mul-assoc, mul-comm, zero-mul, minus-mul, neg-mul}
 use Rattle.chc_nums.specs.Values.{with_value}
 use Rattle.chc_form.specs.Linear.{sum_of}
 use Rattle.chc_simplex.specs.declared.data.Line.{Line}
 use Rattle.chc_simplex.specs.Terms.{Terms, coefficient, others, merged}
 use Rattle.chc_simplex.specs.Lines.{Tableau, line, line_at, reduced, turned_up, turned_down, turned, with_entered, substituted, rewritten_line, rewritten}
-use Rattle.chc_simplex.proofs.Orders.{value-some, true-or_false, int_eq-true, Within, Within-map, merged-is, others-is, absent-is}
+use Rattle.chc_simplex.proofs.Orders.{value-some, int_eq-true, Within, Within-map, merged-is, others-is, absent-is}
 use Rattle.chc_simplex.proofs.Division.{above-product, cancel, Reduced, reduced-is}
+use Rattle.std.proofs.lemmas.Bool.{cases_Bool}
 
 -- ---- the leaving line turned round
 
@@ -33,16 +34,8 @@ above-zero a h = grind (arith, ints)
 below-zero : (a : ℤ) → lt_z (pos 0) a ≡ false → a ≢ pos 0 → pos 1 ≤ℤ neg_ℤ a
 below-zero a h n = grind (arith, ints)
 
-neg-mul : (a b : ℤ) → neg_ℤ a *ℤ b ≡ neg_ℤ (a *ℤ b)
-neg-mul a b =
-    let none : a +ℤ neg_ℤ a ≡ pos 0 = omega (arith, ints) in
-    omega (arith, ints, add-mul a (neg_ℤ a) b, ap (λ (y : ℤ). y *ℤ b) none, zero-mul b)
-
 one-mul : (a : ℤ) → pos 1 *ℤ a ≡ a
 one-mul a = omega (arith, ints)
-
-minus-mul : (a : ℤ) → negsuc 0 *ℤ a ≡ neg_ℤ a
-minus-mul a = omega (arith, ints)
 
 turned_up-is : (N : ℕ → Type 0) (z : ℕ → ℤ) (d : ℤ) (s : ℕ) (a : ℤ) (ts rest : Terms) (e : ℕ) (l : Line) → pos 1 ≤ℤ a → sum_of ts z ≡ (a *ℤ z e) +ℤ sum_of rest z → Within N 0 rest → N s → turned_up d s a rest ≡ Some l → Turned N z d s ts e l
 turned_up-is N z d s a ts rest e l p q w n h =
@@ -73,7 +66,7 @@ turned-is P N z d ts s e l c w f n h =
     let o = others-is P z 0 e ts w in
     let a : ℤ = coefficient ts e in
     let rest : Within N 0 (others e ts) = Within-map (λ v. P v × (v ≢ e)) N 0 (others e ts) (λ v x. f v x.0 x.1) o.0 in
-    elim (true-or_false (lt_z (pos 0) a)) [
+    elim (cases_Bool (lt_z (pos 0) a)) [
       | inl b ↦ turned_up-is N z d s a ts (others e ts) e l (above-zero a b) o.1 rest n (rw b at h)
       | inr b ↦ turned_down-is N z d s a ts (others e ts) e l (below-zero a b c) o.1 rest n (rw b at h)
     ]
@@ -132,7 +125,7 @@ with_entered-is P N z e entered l k ep ew lp lw f h =
 
 pub substituted-is : (P N : ℕ → Type 0) (z : ℕ → ℤ) (e : ℕ) (entered l k : Line) → pos 1 ≤ℤ entered.denominator → Within N 0 entered.terms → pos 1 ≤ℤ l.denominator → Within P 0 l.terms → ((v : ℕ) → P v → v ≢ e → N v) → substituted e entered l ≡ Some k → Substituted N z entered e l k
 substituted-is P N z e entered l k ep ew lp lw f h =
-    elim (true-or_false (int_eq (coefficient l.terms e) (pos 0))) [
+    elim (cases_Bool (int_eq (coefficient l.terms e) (pos 0))) [
       | inl b ↦
           let s : Some l ≡ Some k = rw b at h in
           let same : l ≡ k = cc in

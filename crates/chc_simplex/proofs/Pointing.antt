@@ -8,7 +8,7 @@ use Rattle.std.proofs.lemmas.Int.{ints, unsigned_abs-mul}
 use Rattle.std.proofs.lemmas.Nat.Gcd.{dvd_trans, dvd_refl}
 use Rattle.chc_nums.specs.Wide.{in_128}
 use Rattle.chc_nums.proofs.Fits.{in_128-value}
-use Rattle.chc_nums.proofs.Ring.{mul-add, mul-assoc, mul-comm, zero-mul, mul-nonneg-nonpos}
+use Rattle.chc_nums.proofs.Ring.{mul-add, mul-assoc, mul-comm, zero-mul, mul-nonneg-nonpos, mul-neg}
 use Rattle.chc_nums.specs.Values.{with_value}
 use Rattle.chc_form.specs.declared.linear.Lin.{Lin}
 use Rattle.chc_form.specs.Linear.{sum_of, FracSatisfies}
@@ -23,11 +23,13 @@ use Rattle.chc_simplex.specs.Endings.{lowest, fraction, fractions, multiple, mul
 use Rattle.chc_simplex.specs.TableauRun.{terms_width, width, bounds_of}
 use Rattle.chc_simplex.specs.Answers.{Answers}
 use Rattle.chc_simplex.proofs.Steps.{gcd-is}
-use Rattle.chc_simplex.proofs.Orders.{value-some, true-or_false, less-true, less-false, Within}
+use Rattle.chc_simplex.proofs.Orders.{value-some, Within}
 use Rattle.chc_simplex.proofs.Division.{above-product, cancel, cancel-le, exact, divisor-some, abs-some, quotient-above}
 use Rattle.chc_simplex.proofs.Invariance.{Nonbasic, Defines, Holds, Valid, Invariant}
 use Rattle.chc_simplex.proofs.Scanning.{sums-value, none-found}
 use Rattle.chc_simplex.proofs.Refuting.{Reads, bounds-read, rest_at-slack, rest_at-variable, sum-scale}
+use Rattle.lists.proofs.Tests.{less-true, less-false}
+use Rattle.std.proofs.lemmas.Bool.{cases_Bool}
 
 -- ---- fractions
 
@@ -101,7 +103,7 @@ last-of n bounds v o os fs b h =
 fractions-are : (n : ℕ) (bounds : List ℤ) (v : ℕ) (tab : Tableau) (fs : List (ℤ × ℤ)) → Above tab → fractions n bounds v tab ≡ Some fs → AreFractions (rest_at n bounds) tab fs
 fractions-are n bounds v [] fs a h = let q : [] ≡ fs = cc (h) in subst (AreFractions (rest_at n bounds) []) q tt
 fractions-are n bounds v (o ∷ os) fs a h =
-    elim (true-or_false (nat_lt v n)) [
+    elim (cases_Bool (nat_lt v n)) [
       | inl b ↦
           let f = value-some (fraction n bounds o) (λ f. with_value (fractions n bounds (v + 1) os) (λ fs. Some (f ∷ fs))) fs (first-of n bounds v o os fs b h) in
           let more = value-some (fractions n bounds (v + 1) os) (λ fs. Some (f.0 ∷ fs)) fs f.2 in
@@ -113,7 +115,7 @@ fractions-are n bounds v (o ∷ os) fs a h =
 fractions-length : (n : ℕ) (bounds : List ℤ) (v : ℕ) (tab : Tableau) (fs : List (ℤ × ℤ)) → v ≤ n → n ≤ v + length tab → fractions n bounds v tab ≡ Some fs → v + length fs ≡ n
 fractions-length n bounds v [] fs l m h = let q : [] ≡ fs = cc (h) in subst (λ (xs : List (ℤ × ℤ)). v + length xs ≡ n) q (omega arith)
 fractions-length n bounds v (o ∷ os) fs l m h =
-    elim (true-or_false (nat_lt v n)) [
+    elim (cases_Bool (nat_lt v n)) [
       | inl b ↦
           let f = value-some (fraction n bounds o) (λ f. with_value (fractions n bounds (v + 1) os) (λ fs. Some (f ∷ fs))) fs (first-of n bounds v o os fs b h) in
           let more = value-some (fractions n bounds (v + 1) os) (λ fs. Some (f.0 ∷ fs)) fs f.2 in
@@ -323,11 +325,6 @@ bound-ring : (c m d x : ℤ) → (c *ℤ m) *ℤ (d *ℤ x) ≡ ((d *ℤ c) *ℤ
 bound-ring c m d x =
     mul-assoc (c *ℤ m) d x ∙ ap (λ (y : ℤ). y *ℤ x) (mul-comm (c *ℤ m) d ∙ mul-assoc d c m)
 
-minus-right : (a b : ℤ) → a *ℤ neg_ℤ b ≡ neg_ℤ (a *ℤ b)
-minus-right a b =
-    let none : b +ℤ neg_ℤ b ≡ pos 0 = omega (arith, ints) in
-    omega (arith, ints, mul-add a b (neg_ℤ b), ap (λ (y : ℤ). a *ℤ y) none, mul-comm a (pos 0), zero-mul a)
-
 scale-le : (g a b : ℤ) → pos 0 ≤ℤ g → a ≤ℤ b → (g *ℤ a) ≤ℤ (g *ℤ b)
 scale-le g a b h l =
     let c : ℤ = a -ℤ b in
@@ -374,7 +371,7 @@ row-step : (k m s c zr b : ℤ) → pos 1 ≤ℤ k → zr ≡ k *ℤ s → zr �
 row-step k m s c zr b p h l e =
     let less : (k *ℤ s) ≤ℤ (k *ℤ (m *ℤ b)) = omega (arith, ints, h, l, mul-assoc k m b) in
     let short : s ≤ℤ (m *ℤ b) = cancel-le k s (m *ℤ b) p less in
-    omega (arith, ints, short, ap (λ (y : ℤ). m *ℤ y) e, minus-right m c, mul-comm m c)
+    omega (arith, ints, short, ap (λ (y : ℤ). m *ℤ y) e, mul-neg m c, mul-comm m c)
 
 rows-satisfied : (i n : ℕ) (rows : List Lin) (z r x : ℕ → ℤ) (k m : ℤ) → pos 1 ≤ℤ k → Defines i rows z → Reads i rows (λ r. neg_ℤ r.konst) r → ((j : ℕ) → i ≤ j → j < i + length rows → z j ≤ℤ ((k *ℤ m) *ℤ r j)) → ((v : ℕ) → v < n → z v ≡ k *ℤ x v) → width rows ≤ n → FracSatisfies rows x m
 rows-satisfied i n [] z r x k m p d b f g h = tt

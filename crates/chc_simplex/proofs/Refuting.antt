@@ -3,11 +3,11 @@ use Rattle.std.proofs.Common.{◌≡◌, ◌∙◌, sym, ap, subst, refl, ℕ, z
 use lib.IntN.{ℤ, negsuc}
 use Rattle.std.specs.Prelude.{nat_lt, ◌==◌, if◌then◌else◌}
 use Rattle.std.proofs.lemmas.Int.{ints}
-use Rattle.std.proofs.lemmas.Bool.{cases_eq}
+use Rattle.std.proofs.lemmas.Bool.{cases_eq, cases_Bool}
 use Rattle.std.proofs.lemmas.Bool.Decides.{nat_tests}
 use Rattle.chc_nums.specs.Wide.{in_128}
 use Rattle.chc_nums.proofs.Fits.{in_128-value}
-use Rattle.chc_nums.proofs.Ring.{mul-add, add-mul, mul-assoc, mul-comm, zero-mul}
+use Rattle.chc_nums.proofs.Ring.{mul-add, add-mul, mul-assoc, mul-comm, zero-mul, minus-mul, neg-mul}
 use Rattle.chc_nums.specs.Values.{with_value}
 use Rattle.chc_form.specs.declared.linear.Lin.{Lin}
 use Rattle.chc_form.specs.Linear.{sum_of}
@@ -22,10 +22,11 @@ use Rattle.chc_simplex.specs.Rounds.{number_at, rest_at, entering}
 use Rattle.chc_simplex.specs.Endings.{multiplier, multipliers, variable_sums, constant_sum, zeros, summed, refutation}
 use Rattle.chc_simplex.specs.TableauRun.{terms_width, width, bounds_of}
 use Rattle.chc_simplex.specs.Answers.{Answers}
-use Rattle.chc_simplex.proofs.Orders.{value-some, true-or_false, same-true, same-not, same-is, coefficient-past, Within}
+use Rattle.chc_simplex.proofs.Orders.{value-some, coefficient-past, Within}
 use Rattle.chc_simplex.proofs.Pivoting.{line_at-within}
 use Rattle.chc_simplex.proofs.Invariance.{Nonbasic, Defines, Invariant}
 use Rattle.chc_simplex.proofs.Scanning.{Found, Blocked, none-enters}
+use Rattle.lists.proofs.Tests.{less-is, less-not, same-true, same-not, same-is}
 
 -- ---- the rows read at values of the slacks
 
@@ -68,12 +69,6 @@ cond-no : {A : Type 0} (b : Bool) (x y : A) → b ≡ false → cond b x y ≡ y
 cond-no true x y h = absurd (cc)
 cond-no false x y h = refl
 
-less-is : (v n : ℕ) → v < n → nat_lt v n ≡ true
-less-is v n h = grind (arith, nat_tests)
-
-less-not : (v n : ℕ) → n ≤ v → nat_lt v n ≡ false
-less-not v n h = grind (arith, nat_tests)
-
 pub rest_at-slack : (n : ℕ) (bounds : List ℤ) (k : ℕ) → rest_at n bounds (n + k) ≡ number_at bounds k
 rest_at-slack n bounds k =
     let e : n + k - n ≡ k = omega arith in
@@ -88,7 +83,7 @@ pub coefficient-is : (P : ℕ → Type 0) (k v : ℕ) (ts : Terms) → Within P 
 coefficient-is P k v [] w = refl
 coefficient-is P k v (t ∷ ts) w =
     let i = coefficient-is P (suc t.0) v ts w.3 in
-    elim (true-or_false (t.0 == v)) [
+    elim (cases_Bool (t.0 == v)) [
       | inl q ↦ rw q (omega (arith, ints, i, coefficient-past P (suc t.0) v ts (omega (arith, same-true t.0 v q)) w.3))
       | inr q ↦ rw q (omega (arith, ints, i))
     ]
@@ -96,7 +91,7 @@ coefficient-is P k v (t ∷ ts) w =
 pub coefficient-none : (P : ℕ → Type 0) (k v : ℕ) (ts : Terms) → Within P k ts → (P v → ⊥) → coefficient ts v ≡ pos 0
 coefficient-none P k v [] w n = refl
 coefficient-none P k v (t ∷ ts) w n =
-    elim (true-or_false (t.0 == v)) [
+    elim (cases_Bool (t.0 == v)) [
       | inl q ↦ absurd (n (subst P (same-true t.0 v q) w.2))
       | inr q ↦ rw q (coefficient-none P (suc t.0) v ts w.3 n)
     ]
@@ -104,7 +99,7 @@ coefficient-none P k v (t ∷ ts) w n =
 blocked-coefficient : (n v : ℕ) (ts : Terms) → Blocked n ts → coefficient ts v ≤ℤ pos 0
 blocked-coefficient n v [] b = omega (arith, ints)
 blocked-coefficient n v (t ∷ ts) b =
-    elim (true-or_false (t.0 == v)) [
+    elim (cases_Bool (t.0 == v)) [
       | inl q ↦ rw q b.1
       | inr q ↦ rw q (blocked-coefficient n v ts b.2)
     ]
@@ -120,7 +115,7 @@ exact_multiplier s d ts v = if v == s then d else neg_ℤ (coefficient ts v)
 
 multiplier-value : (s : ℕ) (d : ℤ) (ts : Terms) (v : ℕ) (m : ℤ) → multiplier s d ts v ≡ Some m → m ≡ exact_multiplier s d ts v
 multiplier-value s d ts v m h =
-    elim (true-or_false (v == s)) [
+    elim (cases_Bool (v == s)) [
       | inl q ↦ let e : Some d ≡ Some m = rw q at h in rw q (let f : m ≡ d = cc (e) in f)
       | inr q ↦ rw q (in_128-value (neg_ℤ (coefficient ts v)) m (rw q at h))
     ]
@@ -135,7 +130,7 @@ multipliers-length s d ts v (r ∷ rs) ms h =
 
 exact-sign : (n s : ℕ) (d : ℤ) (ts : Terms) (v : ℕ) → pos 1 ≤ℤ d → Blocked n ts → pos 0 ≤ℤ exact_multiplier s d ts v
 exact-sign n s d ts v p b =
-    elim (true-or_false (v == s)) [
+    elim (cases_Bool (v == s)) [
       | inl q ↦ rw q (omega (arith, ints, p))
       | inr q ↦ rw q (omega (arith, ints, blocked-coefficient n v ts b))
     ]
@@ -159,14 +154,6 @@ multipliers-sum s d ts v (r ∷ rs) ms f w h g =
     let i = multipliers-sum s d ts (suc v) rs more.0 f w (subst (λ (u : ℕ). multipliers s d ts u rs ≡ Some more.0) next more.1) g.1 in
     let here : m.0 *ℤ f r ≡ exact_multiplier s d ts v *ℤ w v = ap (λ (y : ℤ). y *ℤ f r) (multiplier-value s d ts v m.0 m.1) ∙ ap (λ (y : ℤ). exact_multiplier s d ts v *ℤ y) (sym g.0) in
     subst (λ (xs : List ℤ). weighted f xs (r ∷ rs) ≡ between v (suc (length rs)) (λ j. exact_multiplier s d ts j *ℤ w j)) q (omega (arith, ints, here, i))
-
-minus-mul : (a : ℤ) → negsuc 0 *ℤ a ≡ neg_ℤ a
-minus-mul a = omega (arith, ints)
-
-neg-mul : (a b : ℤ) → neg_ℤ a *ℤ b ≡ neg_ℤ (a *ℤ b)
-neg-mul a b =
-    let none : a +ℤ neg_ℤ a ≡ pos 0 = omega (arith, ints) in
-    omega (arith, ints, add-mul a (neg_ℤ a) b, ap (λ (y : ℤ). y *ℤ b) none, zero-mul b)
 
 -- one slack's part, and the others'
 exact-parts : (P : ℕ → Type 0) (s : ℕ) (d : ℤ) (ts : Terms) (w : ℕ → ℤ) (j : ℕ) → Within P 0 ts → coefficient ts s ≡ pos 0 → exact_multiplier s d ts j *ℤ w j ≡ (only s d j *ℤ w j) +ℤ (negsuc 0 *ℤ (coef ts j *ℤ w j))
@@ -228,7 +215,7 @@ unit_point n rows u v = if nat_lt v n then unit u v else row_at rows (v - n) (λ
 
 unit-part : (u v : ℕ) (a : ℤ) → a *ℤ unit u v ≡ (if v == u then a else pos 0)
 unit-part u v a =
-    elim (true-or_false (v == u)) [
+    elim (cases_Bool (v == u)) [
       | inl q ↦ rw q (omega (arith, ints))
       | inr q ↦ rw q (omega (arith, ints, mul-comm a (pos 0), zero-mul a))
     ]

@@ -13,7 +13,9 @@ use Rattle.chc_simplex.specs.declared.data.Line.{Line}
 use Rattle.chc_simplex.specs.Terms.{Terms, coefficient, sums_from}
 use Rattle.chc_simplex.specs.Lines.{Tableau, line_at}
 use Rattle.chc_simplex.specs.Rounds.{rest_at, line_above, is_above, first_above, is_suitable, entering}
-use Rattle.chc_simplex.proofs.Orders.{value-some, true-or_false, less-true, less-false, same-not, same-is, Within}
+use Rattle.chc_simplex.proofs.Orders.{value-some, Within}
+use Rattle.lists.proofs.Tests.{less-true, less-false, same-not, same-is}
+use Rattle.std.proofs.lemmas.Bool.{cases_Bool}
 
 -- a computed number is the true one
 pub add_product-value : (s a b t : ℤ) → add_product s a b ≡ Some t → t ≡ s +ℤ (a *ℤ b)
@@ -58,14 +60,14 @@ cond-no false x y h = refl
 is_above-true : (n : ℕ) (bounds : List ℤ) (v : ℕ) (o : Option Line) → is_above n bounds v o ≡ Some true → (l : Line) × (o ≡ Some l) × (n ≤ v) × (line_above n bounds (rest_at n bounds v) l ≡ Some true)
 is_above-true n bounds v None h = absurd (cc)
 is_above-true n bounds v (Some l) h =
-    elim (true-or_false (nat_lt v n)) [
+    elim (cases_Bool (nat_lt v n)) [
       | inl b ↦ let q : false ≡ true = same-bool false true (rw b at h) in absurd (cc (q))
       | inr b ↦ (l, refl, less-false v n b, cond-no (nat_lt v n) (Some false) (line_above n bounds (rest_at n bounds v) l) b ∙ h)
     ]
 
 is_above-false : (n : ℕ) (bounds : List ℤ) (v : ℕ) (l : Line) → n ≤ v → is_above n bounds v (Some l) ≡ Some false → line_above n bounds (rest_at n bounds v) l ≡ Some false
 is_above-false n bounds v l m h =
-    elim (true-or_false (nat_lt v n)) [
+    elim (cases_Bool (nat_lt v n)) [
       | inl b ↦ absurd (omega (arith, less-true v n b, m))
       | inr b ↦ cond-no (nat_lt v n) (Some false) (line_above n bounds (rest_at n bounds v) l) b ∙ h
     ]
@@ -86,7 +88,7 @@ pub first-found : (n : ℕ) (bounds : List ℤ) (v : ℕ) (tab : Tableau) (s : �
 first-found n bounds v [] s h = let q : None ≡ Some s = same-option None (Some s) h in absurd (cc (q))
 first-found n bounds v (o ∷ os) s h =
     let a = value-some (is_above n bounds v o) (λ above. cond above (Some (Some v)) (first_above n bounds (v + 1) os)) (Some s) h in
-    elim (true-or_false a.0) [
+    elim (cases_Bool a.0) [
       | inl b ↦
           let here : Some v ≡ Some s = same-option (Some v) (Some s) (rw b at a.2) in
           let same : v ≡ s = cc (here) in
@@ -114,7 +116,7 @@ pub none-found : (n : ℕ) (bounds : List ℤ) (v : ℕ) (tab : Tableau) → fir
 none-found n bounds v [] h k l g m = absurd (cc (g))
 none-found n bounds v (o ∷ os) h zero l g m =
     let a = value-some (is_above n bounds v o) (λ above. cond above (Some (Some v)) (first_above n bounds (v + 1) os)) None h in
-    elim (true-or_false a.0) [
+    elim (cases_Bool a.0) [
       | inl b ↦ let q : Some v ≡ None = same-option (Some v) None (rw b at a.2) in absurd (cc (q))
       | inr b ↦
           let e : v + 0 ≡ v = omega arith in
@@ -124,7 +126,7 @@ none-found n bounds v (o ∷ os) h zero l g m =
     ]
 none-found n bounds v (o ∷ os) h (suc k) l g m =
     let a = value-some (is_above n bounds v o) (λ above. cond above (Some (Some v)) (first_above n bounds (v + 1) os)) None h in
-    elim (true-or_false a.0) [
+    elim (cases_Bool a.0) [
       | inl b ↦ let q : Some v ≡ None = same-option (Some v) None (rw b at a.2) in absurd (cc (q))
       | inr b ↦
           let e : v + suc k ≡ (v + 1) + k = omega arith in
@@ -144,7 +146,7 @@ unlike a h = grind (arith, ints)
 
 not-suitable : (n : ℕ) (t : ℕ × ℤ) → is_suitable n t ≡ false → t.1 ≢ pos 0 → (n ≤ t.0) × (t.1 ≤ℤ pos 0)
 not-suitable n t h m =
-    elim (true-or_false (nat_lt t.0 n)) [
+    elim (cases_Bool (nat_lt t.0 n)) [
       | inl b ↦ let q : true ≡ false = rw (b, unlike t.1 m) at h in absurd (cc (q))
       | inr b ↦ (less-false t.0 n b, less-not (pos 0) t.1 (rw b at h))
     ]
@@ -152,7 +154,7 @@ not-suitable n t h m =
 pub none-enters : (P : ℕ → Type 0) (n k : ℕ) (ts : Terms) → Within P k ts → entering n ts ≡ None → Blocked n ts
 none-enters P n k [] w h = tt
 none-enters P n k (t ∷ ts) w h =
-    elim (true-or_false (is_suitable n t)) [
+    elim (cases_Bool (is_suitable n t)) [
       | inl b ↦ let q : Some t.0 ≡ None = rw b at h in absurd (cc (q))
       | inr b ↦ let x = not-suitable n t b w.1 in (x.0, x.1, none-enters P n (suc t.0) ts w.3 (rw b at h))
     ]
@@ -160,7 +162,7 @@ none-enters P n k (t ∷ ts) w h =
 pub one-enters : (P : ℕ → Type 0) (n k e : ℕ) (ts : Terms) → Within P k ts → entering n ts ≡ Some e → (coefficient ts e ≢ pos 0) × P e × (k ≤ e)
 one-enters P n k e [] w h = absurd (cc)
 one-enters P n k e (t ∷ ts) w h =
-    elim (true-or_false (is_suitable n t)) [
+    elim (cases_Bool (is_suitable n t)) [
       | inl b ↦
           let q : Some t.0 ≡ Some e = rw b at h in
           let same : t.0 ≡ e = cc (q) in

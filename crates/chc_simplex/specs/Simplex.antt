@@ -1,4 +1,4 @@
--- A tableau with marks: of each line, whether its variable is a basic slack above its bound.
+-- A tableau with above_flags: of each line, whether its variable is a basic slack above its bound.
 use Rattle.std.specs.Prelude.{◌≡◌, ℕ, ◌+◌, Bool, List, [], ◌∷◌, Option, Some, None, Result, Ok, Err, if◌then◌else◌}
 use lib.IntN.{ℤ}
 use Rattle.chc_nums.specs.Values.{with_value}
@@ -8,24 +8,24 @@ use Rattle.chc_simplex.specs.declared.data.Stop.TheVariants as stop
 use Rattle.chc_simplex.specs.Lines.{Tableau}
 use Rattle.chc_simplex.specs.Rounds.{is_above}
 
--- the marks of lines, from variable v on
-abbrev pub marks_of : ℕ → List ℤ → ℕ → Tableau → List (Option Bool)
-marks_of n bounds v [] = []
-marks_of n bounds v (o ∷ os) = is_above n bounds v o ∷ marks_of n bounds (v + 1) os
+-- the above_flags of lines, from variable v on
+abbrev pub above_flags_of : ℕ → List ℤ → ℕ → Tableau → List (Option Bool)
+above_flags_of n bounds v [] = []
+above_flags_of n bounds v (o ∷ os) = is_above n bounds v o ∷ above_flags_of n bounds (v + 1) os
 
 -- the first line that is marked, from variable v on
-abbrev pub first_marked : ℕ → List (Option Bool) → Option (Option ℕ)
-first_marked v [] = Some None
-first_marked v (m ∷ ms) = with_value m (λ above. if above then Some (Some v) else first_marked (v + 1) ms)
+abbrev pub first_above : ℕ → List (Option Bool) → Option (Option ℕ)
+first_above v [] = Some None
+first_above v (m ∷ ms) = with_value m (λ above. if above then Some (Some v) else first_above (v + 1) ms)
 
--- the marks are those of the lines
-pub record AreMarked (b : Simplex) : Type 0 where
-  pub marks : b.marks ≡ marks_of b.variables b.bounds 0 b.tableau
+-- the above_flags are those of the lines
+pub record AreAboveFlags (b : Simplex) : Type 0 where
+  pub above_flags : b.above_flags ≡ above_flags_of b.variables b.bounds 0 b.tableau
 
 -- this tableau comes of another one of the same run
 pub record ComesOf (old b : Simplex) (value : Option Tableau) : Type 0 where
   pub tableau : value ≡ Some b.tableau
-  pub marked : AreMarked b
+  pub marked : AreAboveFlags b
   pub variables : b.variables ≡ old.variables
   pub bounds : b.bounds ≡ old.bounds
 

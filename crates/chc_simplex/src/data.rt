@@ -32,7 +32,7 @@ pub struct Simplex {
     pub variables: usize,
     pub bounds: List<i128>,
     pub tableau: List<Option<Line>>,
-    pub marks: List<Option<bool>>,
+    pub above_flags: List<Option<bool>>,
 }
 
 /// What a round finds.

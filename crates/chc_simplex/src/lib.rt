@@ -15,6 +15,3 @@ mod terms;
 pub use chc_form::Row;
 pub use data::Lp;
 pub use run::solve;
-
-#[cfg(test)]
-mod tests;

@@ -2,11 +2,12 @@
 
 ghost use Rattle.std.specs.Prelude.{◌≡◌, unsigned_abs};
 ghost use Rattle.chc_simplex.specs.Outcomes.{Gives};
+ghost use Rattle.chc_simplex.specs.Terms.{others};
 ghost use Rattle.chc_simplex.specs.Lines.{line_at, terms_of, denominator_of, common, divided_terms, divided_line, reduced, turned_up, turned_down, turned, with_entered};
 
 use crate::data::{Line, Stop};
 use crate::numbers::{gcd, quotient, signed};
-use crate::terms::{Factors, coefficient, merged, others};
+use crate::terms::{Factors, coefficient, merged};
 use chc_nums::{List, opposite, product};
 use std::alloc::Global;
 
@@ -101,9 +102,10 @@ fn turned_up(
     denominator: i128,
     leaving: usize,
     a: i128,
-    rest: &[(usize, i128)],
+    entering: usize,
+    terms: &[(usize, i128)],
 ) -> Result<Line, Stop>
-    ensures { Gives result (turned_up denominator leaving a rest.now) }
+    ensures { Gives result (turned_up denominator leaving a (others entering terms.now)) }
 {
     let terms = merged(
         alloc,
@@ -111,7 +113,8 @@ fn turned_up(
             left: -1,
             right: denominator,
         },
-        rest,
+        entering,
+        terms,
         &[(leaving, 1)],
     )?;
     Ok(Line {
@@ -125,9 +128,10 @@ fn turned_down(
     denominator: i128,
     leaving: usize,
     a: i128,
-    rest: &[(usize, i128)],
+    entering: usize,
+    terms: &[(usize, i128)],
 ) -> Result<Line, Stop>
-    ensures { Gives result (turned_down denominator leaving a rest.now) }
+    ensures { Gives result (turned_down denominator leaving a (others entering terms.now)) }
 {
     let Some(above) = opposite(a) else {
         return Err(Stop::Wide);
@@ -135,7 +139,13 @@ fn turned_down(
     let Some(c) = opposite(denominator) else {
         return Err(Stop::Wide);
     };
-    let terms = merged(alloc, &Factors { left: 1, right: c }, rest, &[(leaving, 1)])?;
+    let terms = merged(
+        alloc,
+        &Factors { left: 1, right: c },
+        entering,
+        terms,
+        &[(leaving, 1)],
+    )?;
     Ok(Line {
         denominator: above,
         terms,
@@ -153,11 +163,10 @@ pub fn turned(
     ensures { Gives result (turned denominator terms.now leaving entering) }
 {
     let a = coefficient(terms, entering);
-    let rest = others(alloc, entering, terms)?;
     if a > 0 {
-        turned_up(alloc, denominator, leaving, a, rest.as_slice())
+        turned_up(alloc, denominator, leaving, a, entering, terms)
     } else {
-        turned_down(alloc, denominator, leaving, a, rest.as_slice())
+        turned_down(alloc, denominator, leaving, a, entering, terms)
     }
 }
 
@@ -174,14 +183,14 @@ pub fn with_entered(
     let Some(denominator) = product(entered.denominator, line.denominator) else {
         return Err(Stop::Wide);
     };
-    let rest = others(alloc, entering, line.terms.as_slice())?;
     let terms = merged(
         alloc,
         &Factors {
             left: entered.denominator,
             right: a,
         },
-        rest.as_slice(),
+        entering,
+        line.terms.as_slice(),
         entered.terms.as_slice(),
     )?;
     reduced(alloc, denominator, terms.as_slice())

@@ -4,12 +4,12 @@ ghost use Rattle.std.specs.Prelude.{◌≡◌, ◌+◌, ◌<◌, ◌≤◌, ◌^
 ghost use Rattle.chc_form.specs.Linear.{AllAscend, lins};
 ghost use Rattle.chc_simplex.specs.Outcomes.{Gives};
 ghost use Rattle.chc_simplex.specs.Answers.{Answers};
-ghost use Rattle.chc_simplex.specs.Simplex.{AreMarked};
+ghost use Rattle.chc_simplex.specs.Simplex.{AreAboveFlags};
 ghost use Rattle.chc_simplex.specs.TableauRun.{terms_width, width, bounds_of, nonbasic, slack_lines, first_tableau, run_from, whole_run, tableau_run};
 
 use crate::data::{Line, Lp, Simplex, Step, Stop};
 use crate::endings::{point, refutation};
-use crate::simplex::{marks_of, next_step, pivot};
+use crate::simplex::{above_flags_of, next_step, pivot};
 use chc_form::Row;
 use chc_nums::{List, NoMemory, opposite};
 use std::alloc::Global;
@@ -115,7 +115,7 @@ fn first_tableau(alloc: Global, rows: &[Row]) -> Result<List<Option<Line>>, Stop
 #[tactic(auto, using(crate::proofs::Turns::rounds))]
 fn run_from(alloc: Global, rows: &[Row], pivots: u32, simplex: Simplex) -> Result<Lp, Stop>
     requires few { length rows.now < 2 ^ 31 }
-    requires marked { AreMarked simplex }
+    requires marked { AreAboveFlags simplex }
     requires variables { simplex.variables ≡ width (lins rows.now) }
     requires narrow { simplex.variables ≤ 2 ^ 32 }
     ensures { Gives result (run_from (lins rows.now) simplex.bounds pivots simplex.tableau) }
@@ -163,12 +163,12 @@ fn run(alloc: Global, rows: &[Row], pivots: u32) -> Result<Lp, Stop>
     let variables = width(rows);
     let bounds = bounds_of(alloc, rows)?;
     let tableau = first_tableau(alloc, rows)?;
-    let marks = marks_of(alloc, variables, bounds.as_slice(), tableau.as_slice())?;
+    let above_flags = above_flags_of(alloc, variables, bounds.as_slice(), tableau.as_slice())?;
     let simplex = Simplex {
         variables,
         bounds,
         tableau,
-        marks,
+        above_flags,
     };
     run_from(alloc, rows, pivots, simplex)
 }

@@ -4,7 +4,7 @@ ghost use Rattle.std.specs.Prelude.{◌≡◌, Some, slice_set};
 ghost use Rattle.chc_simplex.specs.Outcomes.{Gives};
 ghost use Rattle.chc_simplex.specs.Lines.{rewritten, rewritten_at, exchanged, pivot};
 ghost use Rattle.chc_simplex.specs.Rounds.{next_step};
-ghost use Rattle.chc_simplex.specs.Simplex.{marks_of, first_marked, AreMarked, GivesSimplex};
+ghost use Rattle.chc_simplex.specs.Simplex.{above_flags_of, first_above, AreAboveFlags, GivesSimplex};
 
 use crate::data::{Line, Simplex, Step, Stop};
 use crate::lines::{denominator_at, terms_at, turned, with_entered};
@@ -13,16 +13,16 @@ use crate::terms::coefficient;
 use chc_nums::List;
 use std::alloc::Global;
 
-// ---- marks
+// ---- which lines are above their bounds
 
-/// The marks of lines.
-pub fn marks_of(
+/// Of each line whether its variable is above its bound.
+pub fn above_flags_of(
     alloc: Global,
     variables: usize,
     bounds: &[i128],
     tableau: &[Option<Line>],
 ) -> Result<List<Option<bool>>, Stop>
-    ensures { Gives result (Some (marks_of variables bounds.now 0 tableau.now)) }
+    ensures { Gives result (Some (above_flags_of variables bounds.now 0 tableau.now)) }
 {
     let mut made = List::new(alloc);
     let mut variable = 0;
@@ -35,14 +35,14 @@ pub fn marks_of(
     Ok(made)
 }
 
-// The first line that is marked.
-fn first_marked(marks: &[Option<bool>]) -> Option<Option<usize>>
-    ensures { result ≡ first_marked 0 marks.now }
+// The first line whose variable is above its bound.
+fn first_above(above_flags: &[Option<bool>]) -> Option<Option<usize>>
+    ensures { result ≡ first_above 0 above_flags.now }
 {
     let mut variable = 0;
-    let mut rest = marks;
-    while let [mark, more @ ..] = rest {
-        match mark {
+    let mut rest = above_flags;
+    while let [above_flag, more @ ..] = rest {
+        match above_flag {
             None => return None,
             Some(true) => return Some(Some(variable)),
             Some(false) => {}
@@ -54,12 +54,12 @@ fn first_marked(marks: &[Option<bool>]) -> Option<Option<usize>>
 }
 
 /// What a round finds, or none where a number leaves 128 bits.
-#[tactic(auto, unfolding(crate::specs::Rounds::next_step), using(crate::proofs::Marking::marks))]
+#[tactic(auto, unfolding(crate::specs::Rounds::next_step), using(crate::proofs::AboveFlags::above_flags))]
 pub fn next_step(simplex: &Simplex) -> Option<Step>
-    requires { AreMarked simplex.now }
+    requires { AreAboveFlags simplex.now }
     ensures { result ≡ next_step simplex.now.variables simplex.now.bounds simplex.now.tableau }
 {
-    let leaving = first_marked(simplex.marks.as_slice())?;
+    let leaving = first_above(simplex.above_flags.as_slice())?;
     Some(step_of(simplex.variables, simplex.tableau.as_slice(), leaving))
 }
 
@@ -74,28 +74,28 @@ fn put<T: Drop>(list: &mut List<T>, at: usize, entry: T)
     }
 }
 
-// Another line at a place, with its mark.
-#[tactic(auto, using(crate::proofs::Marking::marks))]
+// Another line at a place, with its above_flag.
+#[tactic(auto, using(crate::proofs::AboveFlags::above_flags))]
 fn with_line(simplex: Simplex, at: usize, line: Option<Line>) -> Simplex
-    requires { AreMarked simplex }
+    requires { AreAboveFlags simplex }
     ensures { GivesSimplex simplex (Ok result) (Some (slice_set simplex.tableau at line)) }
 {
     let Simplex {
         variables,
         bounds,
         tableau,
-        marks,
+        above_flags,
     } = simplex;
-    let mark = is_above(variables, bounds.as_slice(), at, &line);
+    let above_flag = is_above(variables, bounds.as_slice(), at, &line);
     let mut tableau = tableau;
-    let mut marks = marks;
+    let mut above_flags = above_flags;
     put(&mut tableau, at, line);
-    put(&mut marks, at, mark);
+    put(&mut above_flags, at, above_flag);
     Simplex {
         variables,
         bounds,
         tableau,
-        marks,
+        above_flags,
     }
 }
 
@@ -108,7 +108,7 @@ fn rewritten_at(
     simplex: Simplex,
     at: usize,
 ) -> Result<Simplex, Stop>
-    requires { AreMarked simplex }
+    requires { AreAboveFlags simplex }
     ensures { GivesSimplex simplex result (rewritten_at entering entered.now simplex.tableau at) }
 {
     let Some(Some(line)) = simplex.tableau.get(at) else {
@@ -130,7 +130,7 @@ fn rewritten(
     entered: &Line,
     simplex: Simplex,
 ) -> Result<Simplex, Stop>
-    requires { AreMarked simplex }
+    requires { AreAboveFlags simplex }
     ensures { GivesSimplex simplex result (rewritten entering entered.now simplex.tableau) }
 {
     let mut simplex = simplex;
@@ -147,7 +147,7 @@ fn exchanged(
     entering: usize,
     entered: Line,
 ) -> Result<Simplex, Stop>
-    requires { AreMarked simplex }
+    requires { AreAboveFlags simplex }
     ensures { GivesSimplex simplex result (exchanged simplex.tableau leaving entering entered) }
 {
     let left = with_line(simplex, leaving, None);
@@ -163,7 +163,7 @@ pub fn pivot(
     leaving: usize,
     entering: usize,
 ) -> Result<Simplex, Stop>
-    requires { AreMarked simplex }
+    requires { AreAboveFlags simplex }
     ensures { GivesSimplex simplex result (pivot simplex.tableau leaving entering) }
 {
     let denominator = denominator_at(simplex.tableau.as_slice(), leaving);

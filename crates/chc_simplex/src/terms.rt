@@ -1,6 +1,6 @@
 // Sums of products of variables that ascend.
 
-ghost use Rattle.std.specs.Prelude.{◌≡◌, Some, [], ◌∷◌, ◌*ℤ◌, MatchOption};
+ghost use Rattle.std.specs.Prelude.{◌≡◌, ◌<◌, length, Some, [], ◌∷◌, ◌*ℤ◌, IfSome, MatchOption};
 ghost use Rattle.chc_nums.specs.Wide.{in_128};
 ghost use Rattle.chc_simplex.specs.Outcomes.{Gives};
 ghost use Rattle.chc_simplex.specs.Terms.{coefficient, others, scaled_onto, both, merged, pushed};
@@ -30,25 +30,6 @@ pub fn coefficient(terms: &[(usize, i128)], variable: usize) -> i128
     0
 }
 
-/// The terms of all variables but one.
-pub fn others(
-    alloc: Global,
-    variable: usize,
-    terms: &[(usize, i128)],
-) -> Result<List<(usize, i128)>, Stop>
-    ensures { Gives result (Some (others variable terms.now)) }
-{
-    let mut made = List::new(alloc);
-    let mut rest = terms;
-    while let [(v, a), more @ ..] = rest {
-        if *v != variable {
-            made.push((*v, *a))?;
-        }
-        rest = more;
-    }
-    Ok(made)
-}
-
 // A term more at the end, which vanishes where its coefficient is 0.
 #[tactic(auto, unfolding(crate::specs::Terms::pushed))]
 fn pushed(
@@ -76,6 +57,21 @@ fn first_term(terms: &[(usize, i128)]) -> Option<(usize, i128, &[(usize, i128)])
         [] => None,
         [(v, a), more @ ..] => Some((*v, *a, more)),
     }
+}
+
+// The first term of another variable than this one, and the terms after it.
+fn first_other(skipped: usize, terms: &[(usize, i128)]) -> Option<(usize, i128, &[(usize, i128)])>
+    ensures first { MatchOption result (others skipped terms.now ≡ []) (λ x. others skipped terms.now ≡ (x.0, x.1) ∷ others skipped x.2.now) }
+    ensures fewer { IfSome result (λ x. length x.2.now < length terms.now) }
+{
+    let mut rest = terms;
+    while let [(v, a), more @ ..] = rest {
+        if *v != skipped {
+            return Some((*v, *a, more));
+        }
+        rest = more;
+    }
+    None
 }
 
 // A product more at the end.
@@ -125,20 +121,22 @@ fn scaled(
     Ok(made)
 }
 
-/// The left factor times one sum and the right factor times another, with no term at 0.
+/// The left factor times one sum, but for the term of one variable, and the right factor times another, with no term
+/// at 0.
 #[tactic(auto, using(crate::proofs::Merging::merges))]
 pub fn merged(
     alloc: Global,
     factors: &Factors,
+    skipped: usize,
     ts: &[(usize, i128)],
     us: &[(usize, i128)],
 ) -> Result<List<(usize, i128)>, Stop>
-    ensures { Gives result (merged factors.now.left factors.now.right ts.now us.now) }
+    ensures { Gives result (merged factors.now.left factors.now.right (others skipped ts.now) us.now) }
 {
     let mut made = List::new(alloc);
     let mut left = ts;
     let mut right = us;
-    while let Some((v, a, more_left)) = first_term(left) {
+    while let Some((v, a, more_left)) = first_other(skipped, left) {
         match first_term(right) {
             None => {
                 made = pushed_product(made, v, factors.left, a)?;

@@ -5,7 +5,7 @@ use Rattle.std.specs.List.{filter, list_all}
 use Rattle.std.specs.Ordering.{int_eq}
 use Rattle.std.proofs.lemmas.Int.{ints}
 use Rattle.std.proofs.lemmas.Bool.Decides.{nat_tests}
-use Rattle.std.proofs.lemmas.Bool.{and_parts}
+use Rattle.std.proofs.lemmas.Bool.{and_parts, cases_Bool}
 use Rattle.chc_nums.specs.declared.Ty.{Ty}
 use Rattle.chc_nums.specs.declared.Ty.TheVariants as ty
 use Rattle.chc_nums.specs.Types.{IsType}
@@ -69,10 +69,6 @@ placed-large : (x : ℤ) (ys zs : List ℤ) → is_small x ≡ false → Small y
 placed-large x [] zs h s = refl
 placed-large x (y ∷ ys) zs h s = rw (large-not_before x y h s.0, large-unlike x y h s.0) (ap (λ (ws : List ℤ). y ∷ ws) (placed-large x ys zs h s.1))
 
-small-or_large : (b : Bool) → (b ≡ true) ⊎ (b ≡ false)
-small-or_large true = inl refl
-small-or_large false = inr refl
-
 filter-yes : (x : ℤ) (xs : List ℤ) → is_small x ≡ true → filter is_small (x ∷ xs) ≡ x ∷ filter is_small xs
 filter-yes x xs h = rw h refl
 
@@ -84,7 +80,7 @@ split : (ys zs xs : List ℤ) → Small ys → Large zs → (more : List ℤ) ×
 unfolding placed_all
 split ys zs [] s l = (zs, l, refl)
 split ys zs (x ∷ xs) s l =
-    elim (small-or_large (is_small x)) [
+    elim (cases_Bool (is_small x)) [
       | inl h ↦
           let r = split (placed x ys) zs xs (small-placed x ys h s) l in (
             r.0,

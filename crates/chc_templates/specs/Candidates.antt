@@ -6,6 +6,7 @@ use lib.Signed.{lt_z}
 use Rattle.chc_nums.specs.declared.Ty.{Ty}
 use Rattle.chc_nums.specs.declared.Ty.TheVariants as ty
 use Rattle.chc_nums.specs.Types.{least, greatest}
+use Rattle.chc_nums.specs.declared.limits.TheConstants.{MAX_CANDIDATES}
 use Rattle.chc_form.specs.declared.system.Sort.{Sort}
 use Rattle.chc_form.specs.declared.system.Sort.TheVariants as sort
 use Rattle.chc_form.specs.declared.system.System.{System}
@@ -58,4 +59,4 @@ on_numbers preds ks = flat_map (λ k. on_preds k 0 preds) ks
 
 -- for the first eight constants; the first 1,024 of them
 unfoldable pub candidates_of : System → List Lemma
-candidates_of s = take 1024 (on_numbers s.preds (take 8 (constants_of s)))
+candidates_of s = take MAX_CANDIDATES (on_numbers s.preds (take 8 (constants_of s)))

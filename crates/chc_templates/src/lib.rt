@@ -13,6 +13,3 @@ mod search;
 pub use candidate_laws::candidate_law;
 pub use constant_laws::constant_law;
 pub use search::candidates;
-
-#[cfg(test)]
-mod tests;

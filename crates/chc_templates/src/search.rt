@@ -2,13 +2,14 @@
 
 ghost use Rattle.std.specs.Prelude.{◌≡◌, ◌+◌, ◌<◌, ◌^◌, [], ◌∷◌, ◌++◌, length, take, true, None, Some, neg_ℤ, if◌then◌else◌, IfOk};
 ghost use Rattle.std.specs.List.{list_all};
+ghost use Rattle.chc_nums.specs.declared.limits.TheConstants.{MAX_CANDIDATES};
 ghost use Rattle.chc_nums.specs.Types.{IsType};
 ghost use Rattle.chc_form.specs.WellMade.{is_sort, all_few, well_made};
 ghost use Rattle.chc_templates.specs.Candidates.{splits, konst_for, lemma_on, on_place, on_places, on_preds, on_numbers, candidates_of};
 
 use crate::comparisons::constants;
 use chc_form::{Lemma, Lit, LitTerm, Sort, System};
-use chc_nums::{List, NoMemory, Ty, opposite, range};
+use chc_nums::{List, MAX_CANDIDATES, NoMemory, Ty, opposite, range};
 use std::alloc::Global;
 
 // The constant of the literal that a number of the type is at most k.
@@ -53,10 +54,10 @@ fn lemma_on(alloc: Global, pred: u32, place: u32, konst: i128) -> Result<Lemma, 
 
 // The first 1,024 of some lemmas.
 fn cut(lemmas: List<Lemma>) -> List<Lemma>
-    ensures { result ≡ take 1024 lemmas }
+    ensures { result ≡ take MAX_CANDIDATES lemmas }
 {
     let mut items = lemmas.into_vec();
-    items.truncate(1024);
+    items.truncate(MAX_CANDIDATES);
     List::from_vec(items)
 }
 
@@ -70,9 +71,9 @@ fn with_place(
     sort: &Sort,
 ) -> Result<List<Lemma>, NoMemory>
     requires { is_sort sort.now ≡ true }
-    ensures { IfOk result (λ ls. ls ≡ take 1024 (made ++ on_place k pred place sort.now)) }
+    ensures { IfOk result (λ ls. ls ≡ take MAX_CANDIDATES (made ++ on_place k pred place sort.now)) }
 {
-    if made.len() >= 1024 {
+    if made.len() >= MAX_CANDIDATES {
         return Ok(cut(made));
     }
     match constant_of(k, sort) {
@@ -95,7 +96,7 @@ fn with_places(
 ) -> Result<List<Lemma>, NoMemory>
     requires few { length sorts.now < 2 ^ 31 }
     requires sorts { list_all is_sort sorts.now ≡ true }
-    ensures { IfOk result (λ ls. ls ≡ take 1024 (made ++ on_places k pred 0 sorts.now)) }
+    ensures { IfOk result (λ ls. ls ≡ take MAX_CANDIDATES (made ++ on_places k pred 0 sorts.now)) }
 {
     let mut made = made;
     let mut place = 0;
@@ -117,7 +118,7 @@ fn with_preds(
 ) -> Result<List<Lemma>, NoMemory>
     requires few { length preds.now < 2 ^ 31 }
     requires sorts { list_all (all_few is_sort) preds.now ≡ true }
-    ensures { IfOk result (λ ls. ls ≡ take 1024 (made ++ on_preds k 0 preds.now)) }
+    ensures { IfOk result (λ ls. ls ≡ take MAX_CANDIDATES (made ++ on_preds k 0 preds.now)) }
 {
     let mut made = made;
     let mut pred = 0;
@@ -138,7 +139,7 @@ fn on_numbers(
 ) -> Result<List<Lemma>, NoMemory>
     requires few { length preds.now < 2 ^ 31 }
     requires sorts { list_all (all_few is_sort) preds.now ≡ true }
-    ensures { IfOk result (λ ls. ls ≡ take 1024 (on_numbers preds.now numbers.now)) }
+    ensures { IfOk result (λ ls. ls ≡ take MAX_CANDIDATES (on_numbers preds.now numbers.now)) }
 {
     let mut made = List::new(alloc);
     let mut rest = numbers;

@@ -12,16 +12,16 @@ use Rattle.chc_form.specs.declared.lemma.Lemma.{Lemma}
 use Rattle.chc_reduce.specs.Obligations.{Obligation, at_rules, for_lemmas}
 use Rattle.chc_reduce.specs.Rows.{rows_of}
 use Rattle.chc_cert.specs.Passing.{passes}
-use Rattle.pool_state.specs.Tested.{Left, tested_one, and_then, tested, open_of, Leaves, LeavesOpen}
+use Rattle.pool_state.specs.Tested.{ProofsLeft, tested_one, and_then, tested, open_of, Leaves, LeavesOpen}
 use Rattle.pool_state.specs.Unproved.{unproved}
 use Rattle.pool_state.specs.declared.fault.BatchFault.{BatchFault}
 use Rattle.pool_state.specs.declared.fault.BatchFault.TheVariants as fault
 
-then-append : (l : Left) (f g : List (List ℤ) → Left) → and_then (and_then l f) g ≡ and_then l (λ ps. and_then (f ps) g)
+then-append : (l : ProofsLeft) (f g : List (List ℤ) → ProofsLeft) → and_then (and_then l f) g ≡ and_then l (λ ps. and_then (f ps) g)
 then-append (Ok ps) f g = refl
 then-append (Err first) f g = refl
 
-then-same : (l : Left) (f g : List (List ℤ) → Left) → ((ps : List (List ℤ)) → f ps ≡ g ps) → and_then l f ≡ and_then l g
+then-same : (l : ProofsLeft) (f g : List (List ℤ) → ProofsLeft) → ((ps : List (List ℤ)) → f ps ≡ g ps) → and_then l f ≡ and_then l g
 then-same (Ok ps) f g h = h ps
 then-same (Err first) f g h = refl
 
@@ -52,10 +52,10 @@ lemma-left s have k l [] ps left many e h = absurd (omega arith)
 lemma-left s have k l (m ∷ ls) ps left many e h =
     let n : length (m ∷ ls) - 1 ≡ length ls = omega arith in
     let own : tested (at_rules s have k m 0 s.rules) ps ≡ Ok left = subst (λ (x : Lemma). tested (at_rules s have k x 0 s.rules) ps ≡ Ok left) e h in
-    rw (n, take-length ls) (sym (lemma-tested s have k m ls ps ∙ ap (λ (t : Left). and_then t (tested (for_lemmas s have (k + 1) ls))) own))
+    rw (n, take-length ls) (sym (lemma-tested s have k m ls ps ∙ ap (λ (t : ProofsLeft). and_then t (tested (for_lemmas s have (k + 1) ls))) own))
 
 pub lemma-open : (s : System) (have : List Lemma) (k : ℕ) (l : Lemma) (ls : List Lemma) (ps : List (List ℤ)) (first : ℕ × ℕ) → tested (at_rules s have k l 0 s.rules) ps ≡ Err first → tested (for_lemmas s have k (l ∷ ls)) ps ≡ Err first
-lemma-open s have k l ls ps first h = lemma-tested s have k l ls ps ∙ ap (λ (t : Left). and_then t (tested (for_lemmas s have (k + 1) ls))) h
+lemma-open s have k l ls ps first h = lemma-tested s have k l ls ps ∙ ap (λ (t : ProofsLeft). and_then t (tested (for_lemmas s have (k + 1) ls))) h
 
 -- rules have numbers of 32 bits
 pub rules-few : (s : System) → well_made s ≡ true → length s.rules < 2147483648

@@ -1,6 +1,7 @@
 -- What a batch and a pool are, and how the lemmas of a pool grew.
 use Rattle.std.specs.Prelude.{◌≡◌, ◌≤◌, ℕ, true, Result, Ok, Err, List, [], ◌∷◌, ◌++◌, length, take}
 use Rattle.std.specs.List.{list_all}
+use Rattle.chc_nums.specs.declared.limits.TheConstants.{MAX_LEMMAS}
 use Rattle.chc_form.specs.declared.system.System.{System}
 use Rattle.chc_form.specs.declared.lemma.Lemma.{Lemma}
 use Rattle.chc_form.specs.Solving.{Relative}
@@ -30,7 +31,7 @@ pub record IsBatch (b : Batched) : Type 0 where
   pub base_of : list_all (of_system b.system) b.base ≡ true
   pub lemmas_of : list_all (of_system b.system) b.lemmas ≡ true
   pub some : 1 ≤ length b.lemmas
-  pub few : length b.lemmas ≤ 1024
+  pub few : length b.lemmas ≤ MAX_LEMMAS
   pub relative : Relative b.system b.base b.lemmas
 
 -- what every pool keeps

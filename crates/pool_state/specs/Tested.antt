@@ -9,27 +9,27 @@ use Rattle.pool_state.specs.declared.fault.BatchFault.{BatchFault}
 use Rattle.pool_state.specs.declared.fault.BatchFault.TheVariants as fault
 
 -- the proofs that are left, or the lemma and the rule that stay open
-abbrev pub Left : Type 0
-Left = Result (List (List ℤ)) (ℕ × ℕ)
+abbrev pub ProofsLeft : Type 0
+ProofsLeft = Result (List (List ℤ)) (ℕ × ℕ)
 
-abbrev pub tested_one : Obligation → List (List ℤ) → Left
+abbrev pub tested_one : Obligation → List (List ℤ) → ProofsLeft
 tested_one o [] = Err (o.lemma, o.rule)
 tested_one o (p ∷ ps) = if passes p (rows_of o.formula) then Ok ps else Err (o.lemma, o.rule)
 
-abbrev pub and_then : Left → (List (List ℤ) → Left) → Left
+abbrev pub and_then : ProofsLeft → (List (List ℤ) → ProofsLeft) → ProofsLeft
 and_then (Ok ps) go = go ps
 and_then (Err first) go = Err first
 
-abbrev pub tested : List Obligation → List (List ℤ) → Left
+abbrev pub tested : List Obligation → List (List ℤ) → ProofsLeft
 tested [] ps = Ok ps
 tested (o ∷ os) ps = and_then (tested_one o ps) (tested os)
 
-abbrev pub open_of : Left → Option (ℕ × ℕ)
+abbrev pub open_of : ProofsLeft → Option (ℕ × ℕ)
 open_of (Ok ps) = None
 open_of (Err first) = Some first
 
 -- what a call answers of a test that goes over proofs
-abbrev pub Leaves : Left → Result (Bor (List (List ℤ))) BatchFault → Type 0
+abbrev pub Leaves : ProofsLeft → Result (Bor (List (List ℤ))) BatchFault → Type 0
 Leaves left (Ok rest) = left ≡ Ok rest.now
 Leaves left (Err (fault.Unproved lemma rule)) = left ≡ Err (lemma, rule)
 Leaves left (Err fault.NoMemory) = Unit {0}

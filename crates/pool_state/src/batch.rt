@@ -3,6 +3,7 @@
 ghost use Rattle.std.specs.Prelude.{◌≡◌, ◌≤◌, ◌-◌, length, true, drop};
 ghost use Rattle.std.specs.Arc.{arc_value};
 ghost use Rattle.std.specs.List.{list_all};
+ghost use Rattle.chc_nums.specs.declared.limits.TheConstants.{MAX_LEMMAS};
 ghost use Rattle.chc_form.specs.WellMade.{well_made, of_system};
 ghost use Rattle.chc_reduce.specs.Obligations.{for_lemmas, obligations};
 ghost use Rattle.pool_state.specs.Content.{IsBatch};
@@ -50,7 +51,7 @@ impl Batch {
         requires base_of { list_all (of_system (arc_value s.now)) base.items ≡ true }
         requires lemmas_of { list_all (of_system (arc_value s.now)) lemmas.items ≡ true }
         requires some { 1 ≤ length lemmas.items }
-        requires few { length lemmas.items ≤ 1024 }
+        requires few { length lemmas.items ≤ MAX_LEMMAS }
         ensures { LeavesOpen (unproved (obligations (arc_value s.now) base.items lemmas.items) proofs.items) (λ b. b ≡ record { system = arc_value s.now; base = base.items; lemmas = lemmas.items }) result }
     {
         let had = base.len();
@@ -120,7 +121,7 @@ fn test_batch(
 ) -> Result<(), BatchFault>
     requires made { well_made s.now ≡ true }
     requires base { had ≤ length have.now }
-    requires few { length have.now - had ≤ 1024 }
+    requires few { length have.now - had ≤ MAX_LEMMAS }
     ensures { LeavesOpen (unproved (for_lemmas s.now have.now 0 (drop had have.now)) proofs.now) (λ _. Unit {0}) result }
 {
     match test_lemmas(alloc, s, have, &have[had..], proofs) {

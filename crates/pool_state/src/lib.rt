@@ -11,8 +11,6 @@ mod joined;
 mod laws;
 mod obligations;
 mod pool;
-#[cfg(test)]
-mod tests;
 
 pub use batch::Batch;
 pub use fault::BatchFault;

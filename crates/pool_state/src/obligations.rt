@@ -1,6 +1,7 @@
 // The test of proofs: lemmas in order, and for each the rules in order.
 
 ghost use Rattle.std.specs.Prelude.{◌≡◌, ◌≤◌, true, IfOk, Some, length};
+ghost use Rattle.chc_nums.specs.declared.limits.TheConstants.{MAX_LEMMAS};
 ghost use Rattle.chc_form.specs.declared.system.Part.TheVariants as part;
 ghost use Rattle.chc_form.specs.WellMade.{well_made};
 ghost use Rattle.chc_reduce.specs.Reduced.{reduced};
@@ -93,7 +94,7 @@ pub fn test_lemmas<'a>(
     proofs: &'a [List<i128>],
 ) -> Result<&'a [List<i128>], BatchFault>
     requires made { well_made s.now ≡ true }
-    requires few { length lemmas.now ≤ 1024 }
+    requires few { length lemmas.now ≤ MAX_LEMMAS }
     ensures { Leaves (tested (for_lemmas s.now have.now 0 lemmas.now) proofs.now) result }
 {
     let mut left = proofs;

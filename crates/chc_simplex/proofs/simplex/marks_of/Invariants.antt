@@ -1,9 +1,0 @@
-use Rattle.std.proofs.Common.{◌≡◌, ◌+◌, ◌++◌, length}
-use Rattle.chc_simplex.specs.Simplex.{marks_of}
-use Rattle.chc_simplex.proofs.simplex.marks_of.Given as goal
-
-abbrev pub invariant-loop-rest : goal.invariant-loop-rest
-invariant-loop-rest l = (l.made ++ marks_of l.fn.variables l.fn.bounds l.variable l.rest ≡ marks_of l.fn.variables l.fn.bounds 0 l.fn.tableau) × (l.variable + length l.rest ≡ length l.fn.tableau)
-
-abbrev pub decreases-loop-rest : goal.decreases-loop-rest
-decreases-loop-rest l = length l.rest
