@@ -10,7 +10,7 @@ use Rattle.sol_core.specs.declared.Kind.TheVariants as kind
 use Rattle.sol_core.specs.declared.Cmp.{Cmp}
 use Rattle.sol_core.specs.declared.Cmp.TheVariants as cmp
 use Rattle.sol_core.specs.declared.Site.{Site}
-use Rattle.sol_core.specs.declared.Marks.{Marks}
+use Rattle.sol_core.specs.declared.PanicSites.{PanicSites}
 use Rattle.sol_core.specs.declared.Expr.{Expr, Num, Scalar, Arith, Compare, Cast}
 use Rattle.sol_core.specs.declared.Place.TheVariants as place
 use Rattle.sol_core.specs.declared.Stmt.{Stmt, Set, Require, Assert}
@@ -59,15 +59,15 @@ condition vars i o n = Compare (cmp_of o) (Scalar i) (Num n (type_at vars i))
 abbrev pub converted : List Variable → ℕ → ℕ → Expr → Expr
 converted vars from to e = if size_at vars from == size_at vars to then e else Cast (type_at vars from) (type_at vars to) e
 
-abbrev pub marks_over : ℕ → Marks
-marks_over site = record { under = None; over = Some site; zero = None }
+abbrev pub over_site : ℕ → PanicSites
+over_site site = record { under = None; over = Some site; zero = None }
 
-abbrev pub marks_under : ℕ → Marks
-marks_under site = record { under = Some site; over = None; zero = None }
+abbrev pub under_site : ℕ → PanicSites
+under_site site = record { under = Some site; over = None; zero = None }
 
 -- a variable and a number of its type, added or subtracted with a check
-abbrev pub shifted : List Variable → Op → ℕ → ℤ → Marks → Expr
-shifted vars o from n marks = Arith o (type_at vars from) true (Scalar from) (Num n (type_at vars from)) marks
+abbrev pub shifted : List Variable → Op → ℕ → ℤ → PanicSites → Expr
+shifted vars o from n panics = Arith o (type_at vars from) true (Scalar from) (Num n (type_at vars from)) panics
 
 -- the statement of a step; its target, if it has one, is the one of this number
 abbrev pub stmt_of : List Variable → ℕ → Step → Stmt
@@ -75,8 +75,8 @@ stmt_of vars site (step.Require i o n) = Require (condition vars i o n)
 stmt_of vars site (step.Assert l c i o n) = Assert (condition vars i o n) site
 stmt_of vars site (step.Put to n) = Set (place.Scalar to) (Num n (type_at vars to))
 stmt_of vars site (step.Move to from) = Set (place.Scalar to) (converted vars from to (Scalar from))
-stmt_of vars site (step.Add l c to from n) = Set (place.Scalar to) (converted vars from to (shifted vars op.Add from n (marks_over site)))
-stmt_of vars site (step.Subtract l c to from n) = Set (place.Scalar to) (converted vars from to (shifted vars op.Sub from n (marks_under site)))
+stmt_of vars site (step.Add l c to from n) = Set (place.Scalar to) (converted vars from to (shifted vars op.Add from n (over_site site)))
+stmt_of vars site (step.Subtract l c to from n) = Set (place.Scalar to) (converted vars from to (shifted vars op.Sub from n (under_site site)))
 
 -- the statements of steps, whose targets are numbered in order from a first one on
 abbrev pub stmts_of : List Variable → ℕ → List Step → List Stmt

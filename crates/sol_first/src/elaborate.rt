@@ -3,12 +3,15 @@
 ghost use Rattle.std.specs.Prelude.{◌≡◌, ◌+◌, ◌++◌, ◌∷◌, [], None, length, map, IfOk, OnOk};
 ghost use Rattle.std.specs.List.{range_with_len};
 ghost use Rattle.chc_nums.specs.declared.Ty.TheVariants as ty;
+ghost use Rattle.sol_core.specs.declared.Expr.{Num};
+ghost use Rattle.sol_core.specs.declared.Place.TheVariants as place;
+ghost use Rattle.sol_core.specs.declared.Stmt.{Set, Require, Assert};
 ghost use Rattle.sol_first.specs.Typed.{size_at};
-ghost use Rattle.sol_first.specs.Elaborated.{type_at, sites_of_step, sites_of_steps, sites_of, cmp_of, condition, converted, marks_over, marks_under, shifted, stmt_of, stmts_of, fun_of, funs_of, program_of};
+ghost use Rattle.sol_first.specs.Elaborated.{type_at, sites_of_step, sites_of_steps, sites_of, cmp_of, condition, converted, over_site, under_site, shifted, stmt_of, stmts_of, fun_of, funs_of, program_of};
 
 use crate::contract::{Contract, Function, Order, Step, Variable};
 use chc_nums::{List, NoMemory, Op, Ty};
-use sol_core::{Build, Cmp, Expr, Fun, Kind, Marks, Place, Program, Site, Stmt};
+use sol_core::{Build, Cmp, Expr, Fun, Kind, PanicSites, Place, Program, Site, Stmt};
 use sqlite_items::Boxed;
 use std::alloc::Global;
 
@@ -218,54 +221,104 @@ fn take_site(next: &mut u32, step: &Step) -> Result<(), NoMemory>
 fn stmt(alloc: Global, variables: &[Variable], site: u32, step: &Step) -> Result<Stmt, NoMemory>
     ensures { IfOk result (λ s. s ≡ stmt_of variables.now site step.now) }
 {
-    match step {
+    match *step {
         Step::Require {
             variable,
             order,
             number,
-        } => Ok(Stmt::Require(condition(alloc, variables, *variable, *order, *number)?)),
+        } => required(alloc, variables, variable, order, number),
         Step::Assert {
             variable,
             order,
             number,
             ..
-        } => Ok(Stmt::Assert(
-            condition(alloc, variables, *variable, *order, *number)?,
-            site,
-        )),
-        Step::Put { to, number } => Ok(Stmt::Set(
-            Place::Scalar(*to),
-            Expr::Num(*number, type_at(variables, *to)),
-        )),
-        Step::Move { to, from } => Ok(Stmt::Set(
-            Place::Scalar(*to),
-            converted(alloc, variables, *from, *to, Expr::Scalar(*from))?,
-        )),
+        } => asserted(alloc, variables, variable, order, number, site),
+        Step::Put { to, number } => Ok(put(variables, to, number)),
+        Step::Move { to, from } => moved(alloc, variables, to, from, Expr::Scalar(from)),
         Step::Add {
             to,
             from,
             number,
             ..
-        } => {
-            let sum = shifted(alloc, variables, Op::Add, *from, *number, marks_over(site))?;
-            Ok(Stmt::Set(
-                Place::Scalar(*to),
-                converted(alloc, variables, *from, *to, sum)?,
-            ))
-        }
+        } => changed(alloc, variables, Op::Add, to, from, number, over_site(site)),
         Step::Subtract {
             to,
             from,
             number,
             ..
-        } => {
-            let difference = shifted(alloc, variables, Op::Sub, *from, *number, marks_under(site))?;
-            Ok(Stmt::Set(
-                Place::Scalar(*to),
-                converted(alloc, variables, *from, *to, difference)?,
-            ))
-        }
+        } => changed(
+            alloc,
+            variables,
+            Op::Sub,
+            to,
+            from,
+            number,
+            under_site(site),
+        ),
     }
+}
+
+// A condition that is required, and one that is asserted, whose target is the one of this number.
+fn required(
+    alloc: Global,
+    variables: &[Variable],
+    i: u32,
+    order: Order,
+    n: i128,
+) -> Result<Stmt, NoMemory>
+    ensures { IfOk result (λ s. s ≡ Require (condition variables.now i order n)) }
+{
+    Ok(Stmt::Require(condition(alloc, variables, i, order, n)?))
+}
+
+fn asserted(
+    alloc: Global,
+    variables: &[Variable],
+    i: u32,
+    order: Order,
+    n: i128,
+    site: u32,
+) -> Result<Stmt, NoMemory>
+    ensures { IfOk result (λ s. s ≡ Assert (condition variables.now i order n) site) }
+{
+    Ok(Stmt::Assert(condition(alloc, variables, i, order, n)?, site))
+}
+
+// A number, assigned.
+fn put(variables: &[Variable], to: u32, n: i128) -> Stmt
+    ensures { result ≡ Set (place.Scalar to) (Num n (type_at variables.now to)) }
+{
+    Stmt::Set(Place::Scalar(to), Expr::Num(n, type_at(variables, to)))
+}
+
+// An expression of one variable's type, assigned to another variable.
+fn moved(
+    alloc: Global,
+    variables: &[Variable],
+    to: u32,
+    from: u32,
+    e: Expr,
+) -> Result<Stmt, NoMemory>
+    ensures { IfOk result (λ s. s ≡ Set (place.Scalar to) (converted variables.now from to e)) }
+{
+    let value = converted(alloc, variables, from, to, e)?;
+    Ok(Stmt::Set(Place::Scalar(to), value))
+}
+
+// A sum or a difference, assigned.
+fn changed(
+    alloc: Global,
+    variables: &[Variable],
+    op: Op,
+    to: u32,
+    from: u32,
+    n: i128,
+    panics: PanicSites,
+) -> Result<Stmt, NoMemory>
+    ensures { IfOk result (λ s. s ≡ Set (place.Scalar to) (converted variables.now from to (shifted variables.now op from n panics))) }
+{
+    let value = shifted(alloc, variables, op, from, n, panics)?;
+    moved(alloc, variables, to, from, value)
 }
 
 // A variable's size in bytes, or 0 where there is no such variable.
@@ -295,20 +348,20 @@ fn cmp_of(order: Order) -> Cmp
     }
 }
 
-fn marks_over(site: u32) -> Marks
-    ensures { result ≡ marks_over site }
+fn over_site(site: u32) -> PanicSites
+    ensures { result ≡ over_site site }
 {
-    Marks {
+    PanicSites {
         under: None,
         over: Some(site),
         zero: None,
     }
 }
 
-fn marks_under(site: u32) -> Marks
-    ensures { result ≡ marks_under site }
+fn under_site(site: u32) -> PanicSites
+    ensures { result ≡ under_site site }
 {
-    Marks {
+    PanicSites {
         under: Some(site),
         over: None,
         zero: None,
@@ -358,164 +411,12 @@ fn shifted(
     op: Op,
     from: u32,
     n: i128,
-    marks: Marks,
+    panics: PanicSites,
 ) -> Result<Expr, NoMemory>
-    ensures { IfOk result (λ e. e ≡ shifted variables.now op from n marks) }
+    ensures { IfOk result (λ e. e ≡ shifted variables.now op from n panics) }
 {
     let ty = type_at(variables, from);
     let variable = Boxed::new(alloc, Expr::Scalar(from))?;
     let number = Boxed::new(alloc, Expr::Num(n, ty))?;
-    Ok(Expr::Arith(op, ty, true, variable, number, marks))
-}
-
-#[cfg(test)]
-mod tests {
-    use super::*;
-    use chc_nums::Name;
-    use std::test::Fail;
-
-    fn name(alloc: Global, text: &str) -> Result<Name, NoMemory> {
-        Ok(Name::from_string(String::from_str(alloc, text)?))
-    }
-
-    // Every statement once, and a second function.
-    fn example(alloc: Global) -> Result<Contract, NoMemory> {
-        let mut variables = List::new(alloc);
-        variables.push(Variable {
-            size: 1,
-            name: name(alloc, "x")?,
-        })?;
-        variables.push(Variable {
-            size: 2,
-            name: name(alloc, "y")?,
-        })?;
-        let mut steps = List::new(alloc);
-        steps.push(Step::Require {
-            variable: 0,
-            order: Order::LessEqual,
-            number: 200,
-        })?;
-        steps.push(Step::Assert {
-            line: 5,
-            col: 9,
-            variable: 0,
-            order: Order::Less,
-            number: 201,
-        })?;
-        steps.push(Step::Put { to: 0, number: 7 })?;
-        steps.push(Step::Move { to: 1, from: 0 })?;
-        steps.push(Step::Add {
-            line: 8,
-            col: 15,
-            to: 1,
-            from: 0,
-            number: 250,
-        })?;
-        steps.push(Step::Subtract {
-            line: 9,
-            col: 15,
-            to: 0,
-            from: 0,
-            number: 1,
-        })?;
-        let mut more = List::new(alloc);
-        more.push(Step::Assert {
-            line: 12,
-            col: 9,
-            variable: 1,
-            order: Order::GreaterEqual,
-            number: 1,
-        })?;
-        let mut functions = List::new(alloc);
-        functions.push(Function {
-            name: name(alloc, "f")?,
-            steps,
-        })?;
-        functions.push(Function {
-            name: name(alloc, "g")?,
-            steps: more,
-        })?;
-        Ok(Contract {
-            name: name(alloc, "C")?,
-            variables,
-            functions,
-        })
-    }
-
-    fn mark(e: &Expr) -> Option<u32> {
-        match e {
-            Expr::Arith(Op::Add, _, true, _, _, marks) => marks.over,
-            Expr::Arith(Op::Sub, _, true, _, _, marks) => marks.under,
-            _ => None,
-        }
-    }
-
-    // A word for a statement's form, and the number of its target.
-    fn shape(stmt: &Stmt) -> (&'static str, Option<u32>) {
-        match stmt {
-            Stmt::Require(_) => ("require", None),
-            Stmt::Assert(_, site) => ("assert", Some(*site)),
-            Stmt::Set(_, Expr::Num(_, _)) => ("number", None),
-            Stmt::Set(_, Expr::Cast(Ty::Uint(1), Ty::Uint(2), e)) => ("wider", mark(e.get())),
-            Stmt::Set(_, e) => ("same", mark(e)),
-            _ => ("other", None),
-        }
-    }
-
-    fn shape_at(p: &Program, fun: usize, at: usize) -> (&'static str, Option<u32>) {
-        match p.funs.get(fun) {
-            None => ("no function", None),
-            Some(f) => match f.body.get(at) {
-                None => ("no statement", None),
-                Some(stmt) => shape(stmt),
-            },
-        }
-    }
-
-    fn site_at(sites: &List<Site>, at: usize) -> Option<Site> {
-        sites.get(at).copied()
-    }
-
-    #[test]
-    fn elaborates(rt: HostRuntime) -> Result<(), Fail> {
-        let contract = example(rt.alloc())?;
-        let p = program(rt.alloc(), &contract)?;
-        for (fun, at, word, number) in [
-            (0, 0, "require", None),
-            (0, 1, "assert", Some(0)),
-            (0, 2, "number", None),
-            (0, 3, "wider", None),
-            (0, 4, "wider", Some(1)),
-            (0, 5, "same", Some(2)),
-            (0, 6, "no statement", None),
-            (1, 0, "assert", Some(3)),
-            (2, 0, "no function", None),
-        ] {
-            let (found, site) = shape_at(&p, fun, at);
-            assert_eq!(rt; found, word, "at {fun}, {at}");
-            assert_eq!(rt; site, number, "at {fun}, {at}");
-        }
-        let sites = sites(rt.alloc(), contract.functions.as_slice())?;
-        for (at, kind, line, col) in [
-            (0, Kind::Assert, 5, 9),
-            (1, Kind::Overflow, 8, 15),
-            (2, Kind::Underflow, 9, 15),
-            (3, Kind::Assert, 12, 9),
-        ] {
-            assert_eq!(rt;
-                site_at(&sites, at),
-                Some(Site { kind, line, col }),
-                "at {at}"
-            );
-            assert_eq!(rt;
-                site_at(&p.sites, at),
-                Some(Site { kind, line, col }),
-                "at {at}"
-            );
-        }
-        assert_eq!(rt; p.doors.as_slice(), [0u32, 1].as_slice());
-        assert_eq!(rt; p.scalars.len(), 2);
-        assert_eq!(rt; p.builds.len(), 1);
-        Ok(())
-    }
+    Ok(Expr::Arith(op, ty, true, variable, number, panics))
 }

@@ -72,7 +72,7 @@ numeral-begins (rule.hexadecimal i) = refl
 
 pub unfinished-begins : {s : List ℕ} {hex : Bool} → Unfinished s hex → begins is_ascii_digit s ≡ true
 unfinished-begins rule.after_x = refl
-unfinished-begins (rule.after_mark e {s} w k) = begins-front is_ascii_digit s (e ∷ []) (whole-begins w)
+unfinished-begins (rule.after_letter e {s} w k) = begins-front is_ascii_digit s (e ∷ []) (whole-begins w)
 unfinished-begins (rule.after_gap {n} {s} i m) = begins-front is_ascii_digit s (95 ∷ []) (numeral-begins i)
 
 cut-number : (s rest : List ℕ) → begins is_ascii_digit s ≡ true → cut_of (s ++ rest) ≡ number_of (s ++ rest)

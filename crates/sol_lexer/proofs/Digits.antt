@@ -3,7 +3,7 @@ use Rattle.std.proofs.Common.{◌≡◌, ◌≢◌, ℕ, ◌*◌, ◌^◌, Bool,
 use Rattle.std.specs.Prelude.{codes, pos}
 use Rattle.std.proofs.lemmas.Bool.{eqb-true, eqb-false, cases_Bool, ltb-true, ltb-false}
 use Rattle.std.specs.Char.{is_ascii_digit}
-use Rattle.sol_lexer.specs.Bytes.{begins, is_digit_of, is_exponent_mark}
+use Rattle.sol_lexer.specs.Bytes.{begins, is_digit_of, is_exponent_letter}
 use Rattle.sol_lexer.specs.Reading.{cut_of, number_of, placed_number}
 use Rattle.sol_lexer.specs.Tokens.{Digits, Whole, Numeral, Unfinished, goes_on, spelled, last, next, spaced, runs_on}
 use Rattle.sol_lexer.specs.Tokens as rule
@@ -105,15 +105,15 @@ hexadecimal-parts t (inl (inl p)) = inl (codes "0x" ++ p.0, spelled true p.1, tr
 hexadecimal-parts t (inl (inr p)) = inr ((codes "0x" ++ p.0) ++ (95 ∷ []), true, p.2, rule.after_gap (rule.hexadecimal p.3) refl, ap (λ (x : List ℕ). codes "0x" ++ x) p.4 ∙ gap-joined (codes "0x" ++ p.0) p.2, p.5)
 hexadecimal-parts t (inr h) = inr (codes "0x", true, t, rule.after_x, refl, h)
 
-scaled-parts : {s ds : List ℕ} {more : ℕ → Bool} → Whole s ds more → (e : ℕ) → is_exponent_mark e ≡ true → (t : List ℕ) → DigitParts false t → NumberParts (s ++ (e ∷ t))
+scaled-parts : {s ds : List ℕ} {more : ℕ → Bool} → Whole s ds more → (e : ℕ) → is_exponent_letter e ≡ true → (t : List ℕ) → DigitParts false t → NumberParts (s ++ (e ∷ t))
 scaled-parts {s} {ds} w e k t (inl (inl p)) = inl (s ++ (e ∷ p.0), spelled false ds * 10 ^ spelled false p.1, false, goes_on false, p.2, rule.scaled e w k p.3, ap (λ (x : List ℕ). s ++ (e ∷ x)) p.4 ∙ sym (append_assoc s (e ∷ p.0) p.2), p.5)
 scaled-parts {s} {ds} w e k t (inl (inr p)) = inr ((s ++ (e ∷ p.0)) ++ (95 ∷ []), false, p.2, rule.after_gap (rule.scaled e w k p.3) refl, ap (λ (x : List ℕ). s ++ (e ∷ x)) p.4 ∙ sym (append_assoc s (e ∷ p.0) (95 ∷ p.2)) ∙ gap-joined (s ++ (e ∷ p.0)) p.2, p.5)
-scaled-parts {s} {ds} w e k t (inr h) = inr (s ++ (e ∷ []), false, t, rule.after_mark e w k, sym (append_assoc s (e ∷ []) t), h)
+scaled-parts {s} {ds} w e k t (inr h) = inr (s ++ (e ∷ []), false, t, rule.after_letter e w k, sym (append_assoc s (e ∷ []) t), h)
 
 -- after a whole part, what is taken besides a mark does not follow
-whole-parts : {s ds : List ℕ} {more : ℕ → Bool} → Whole s ds more → (rest : List ℕ) → (begins is_exponent_mark rest ≡ false → begins more rest ≡ false) → NumberParts (s ++ rest)
+whole-parts : {s ds : List ℕ} {more : ℕ → Bool} → Whole s ds more → (rest : List ℕ) → (begins is_exponent_letter rest ≡ false → begins more rest ≡ false) → NumberParts (s ++ rest)
 whole-parts {s} {ds} {more} w [] h = inl (s, spelled false ds, false, more, [], rule.whole w, refl, refl)
-whole-parts {s} {ds} {more} w (e ∷ t) h = elim (cases_Bool (is_exponent_mark e)) [
+whole-parts {s} {ds} {more} w (e ∷ t) h = elim (cases_Bool (is_exponent_letter e)) [
   | inl k ↦ scaled-parts w e k t (digit-parts false t)
   | inr k ↦ inl (s, spelled false ds, false, more, e ∷ t, rule.whole w, refl, h k)
 ]
@@ -121,9 +121,9 @@ whole-parts {s} {ds} {more} w (e ∷ t) h = elim (cases_Bool (is_exponent_mark e
 or-false : (x y : Bool) → x ≡ false → y ≡ false → (x || y) ≡ false
 or-false x y h k = grind arith
 
-positive-more : (rest : List ℕ) → begins (goes_on false) rest ≡ false → begins is_exponent_mark rest ≡ false → begins (λ b. goes_on false b || is_exponent_mark b) rest ≡ false
+positive-more : (rest : List ℕ) → begins (goes_on false) rest ≡ false → begins is_exponent_letter rest ≡ false → begins (λ b. goes_on false b || is_exponent_letter b) rest ≡ false
 positive-more [] h k = refl
-positive-more (b ∷ bs) h k = or-false (goes_on false b) (is_exponent_mark b) h k
+positive-more (b ∷ bs) h k = or-false (goes_on false b) (is_exponent_letter b) h k
 
 positive-parts : (d : ℕ) (t : List ℕ) → d ≢ 48 → is_ascii_digit d ≡ true → TailParts false t → NumberParts (d ∷ t)
 positive-parts d t n h (inl p) = subst (λ (x : List ℕ). NumberParts (d ∷ x)) (sym p.4) (whole-parts (rule.positive n (p.3 d h)) p.2 (positive-more p.2 p.5))
@@ -133,7 +133,7 @@ zero-parts : (t : List ℕ) → NumberParts (codes "0" ++ t)
 zero-parts [] = whole-parts rule.zero_digit [] (λ h. refl)
 zero-parts (b ∷ bs) = elim (cases_Bool (b == 120)) [
   | inl h ↦ subst (λ (x : ℕ). NumberParts (48 ∷ x ∷ bs)) (sym (eqb-true b 120 h)) (hexadecimal-parts bs (digit-parts true bs))
-  | inr h ↦ whole-parts rule.zero_digit (b ∷ bs) (λ k. or-false (b == 120) (is_exponent_mark b) h k)
+  | inr h ↦ whole-parts rule.zero_digit (b ∷ bs) (λ k. or-false (b == 120) (is_exponent_letter b) h k)
 ]
 
 number-parts : (b : ℕ) (bs : List ℕ) → is_ascii_digit b ≡ true → NumberParts (b ∷ bs)

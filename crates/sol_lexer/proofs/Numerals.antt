@@ -4,7 +4,7 @@ use Rattle.std.specs.Prelude.{codes}
 use Rattle.std.proofs.Math.Seq.{drop-append_seam}
 use Rattle.std.proofs.lemmas.Bool.{ne_eqb, cases_lt, le-ltb}
 use Rattle.std.proofs.lemmas.Bool.Decides.{nat_tests}
-use Rattle.sol_lexer.specs.Bytes.{begins, is_digit_of, is_exponent_mark}
+use Rattle.sol_lexer.specs.Bytes.{begins, is_digit_of, is_exponent_letter}
 use Rattle.sol_lexer.specs.Reading.{after_zero, digits_of, digits_on, exponent_of, grown, hexadecimal_of, limited, longer, number_end, number_of, placed_number, positive_of, power_of, scaled}
 use Rattle.sol_lexer.specs.Tokens.{Digits, Whole, Numeral, Unfinished, Piece, FaultAt, goes_on, spelled, last, next, spaced, runs_on}
 use Rattle.sol_lexer.specs.Tokens as rule
@@ -80,7 +80,7 @@ end-limited len n hex rest = elim (cases_lt n (2 ^ 128)) [
   | inr h ↦ let k : nat_lt n (2 ^ 127) ≡ false = le-ltb n (2 ^ 127) (omega (arith, h)) in ap (λ (v : Option ℕ). number_end len v hex rest) (limited-no n h) ∙ sym (ap (λ (c : Bool). if c then (if runs_on rest then cut.BadByte len else cut.Number len (pos n) hex) else cut.WideNumber) k)
 ]
 
-exponent-none : (len : ℕ) (v : Option ℕ) (rest : List ℕ) → begins is_exponent_mark rest ≡ false → exponent_of len v rest ≡ number_end len v false rest
+exponent-none : (len : ℕ) (v : Option ℕ) (rest : List ℕ) → begins is_exponent_letter rest ≡ false → exponent_of len v rest ≡ number_end len v false rest
 exponent-none len v [] h = refl
 exponent-none len v (b ∷ bs) h = rw h refl
 
@@ -102,24 +102,24 @@ power-reads len n {s} {ds} i rest h = ap (power_by len (limited n) (s ++ rest)) 
 
 -- what may stand after a whole part that is read to its end
 abbrev pub Stops : (ℕ → Bool) → List ℕ → Type 0
-Stops more rest = (begins is_exponent_mark rest ≡ true) ⊎ (begins more rest ≡ false)
+Stops more rest = (begins is_exponent_letter rest ≡ true) ⊎ (begins more rest ≡ false)
 
-mark-no_x : (b : ℕ) → is_exponent_mark b ≡ true → (b == 120) ≡ false
-mark-no_x b h = grind (arith, nat_tests)
+letter-no_x : (b : ℕ) → is_exponent_letter b ≡ true → (b == 120) ≡ false
+letter-no_x b h = grind (arith, nat_tests)
 
-mark-no_digit : (b : ℕ) → is_exponent_mark b ≡ true → goes_on false b ≡ false
-mark-no_digit b h = grind (arith, nat_tests)
+letter-no_digit : (b : ℕ) → is_exponent_letter b ≡ true → goes_on false b ≡ false
+letter-no_digit b h = grind (arith, nat_tests)
 
-zero-stops : (b : ℕ) (bs : List ℕ) → Stops (λ b. b == 120 || is_exponent_mark b) (b ∷ bs) → (b == 120) ≡ false
-zero-stops b bs (inl h) = mark-no_x b h
-zero-stops b bs (inr h) = (goes_on-no_digit (b == 120) (is_exponent_mark b) h).0
+zero-stops : (b : ℕ) (bs : List ℕ) → Stops (λ b. b == 120 || is_exponent_letter b) (b ∷ bs) → (b == 120) ≡ false
+zero-stops b bs (inl h) = letter-no_x b h
+zero-stops b bs (inr h) = (goes_on-no_digit (b == 120) (is_exponent_letter b) h).0
 
-positive-stops : (rest : List ℕ) → Stops (λ b. goes_on false b || is_exponent_mark b) rest → begins (goes_on false) rest ≡ false
+positive-stops : (rest : List ℕ) → Stops (λ b. goes_on false b || is_exponent_letter b) rest → begins (goes_on false) rest ≡ false
 positive-stops [] h = refl
-positive-stops (b ∷ bs) (inl h) = mark-no_digit b h
-positive-stops (b ∷ bs) (inr h) = (goes_on-no_digit (goes_on false b) (is_exponent_mark b) h).0
+positive-stops (b ∷ bs) (inl h) = letter-no_digit b h
+positive-stops (b ∷ bs) (inr h) = (goes_on-no_digit (goes_on false b) (is_exponent_letter b) h).0
 
-zero-reads : (rest : List ℕ) → Stops (λ b. b == 120 || is_exponent_mark b) rest → after_zero rest ≡ exponent_of 1 (Some 0) rest
+zero-reads : (rest : List ℕ) → Stops (λ b. b == 120 || is_exponent_letter b) rest → after_zero rest ≡ exponent_of 1 (Some 0) rest
 zero-reads [] h = refl
 zero-reads (b ∷ bs) h = rw (zero-stops b bs h) refl
 
@@ -133,19 +133,19 @@ whole-reads : {s ds : List ℕ} {more : ℕ → Bool} → Whole s ds more → (r
 whole-reads rule.zero_digit rest h = zero-reads rest h ∙ ap (λ (v : Option ℕ). exponent_of 1 v rest) zero-limited
 whole-reads (rule.positive {d} {s} {ds} n i) rest h = positive-number d (s ++ rest) n ∙ ap (positive_by ((d ∷ s) ++ rest)) (spelling-read i rest (positive-stops rest h)) ∙ ap (λ (x : List ℕ). exponent_of (length (d ∷ s)) (limited (spelled false ds)) x) (drop-append_seam (d ∷ s) rest)
 
-more-no_mark : {s ds : List ℕ} {more : ℕ → Bool} → Whole s ds more → (rest : List ℕ) → begins more rest ≡ false → begins is_exponent_mark rest ≡ false
-more-no_mark w [] h = refl
-more-no_mark rule.zero_digit (b ∷ bs) h = (goes_on-no_digit (b == 120) (is_exponent_mark b) h).1
-more-no_mark (rule.positive n i) (b ∷ bs) h = (goes_on-no_digit (goes_on false b) (is_exponent_mark b) h).1
+more-no_letter : {s ds : List ℕ} {more : ℕ → Bool} → Whole s ds more → (rest : List ℕ) → begins more rest ≡ false → begins is_exponent_letter rest ≡ false
+more-no_letter w [] h = refl
+more-no_letter rule.zero_digit (b ∷ bs) h = (goes_on-no_digit (b == 120) (is_exponent_letter b) h).1
+more-no_letter (rule.positive n i) (b ∷ bs) h = (goes_on-no_digit (goes_on false b) (is_exponent_letter b) h).1
 
-marked-reads : {s ds : List ℕ} {more : ℕ → Bool} → Whole s ds more → (e : ℕ) → is_exponent_mark e ≡ true → (rest : List ℕ) → number_of (s ++ (e ∷ rest)) ≡ power_of (length s + 1) (limited (spelled false ds)) rest
-marked-reads {s} {ds} w e h rest = whole-reads w (e ∷ rest) (inl h) ∙ (rw h refl)
+letter-reads : {s ds : List ℕ} {more : ℕ → Bool} → Whole s ds more → (e : ℕ) → is_exponent_letter e ≡ true → (rest : List ℕ) → number_of (s ++ (e ∷ rest)) ≡ power_of (length s + 1) (limited (spelled false ds)) rest
+letter-reads {s} {ds} w e h rest = whole-reads w (e ∷ rest) (inl h) ∙ (rw h refl)
 
 pub numeral-reads : {s : List ℕ} {n : ℕ} {hex : Bool} {more : ℕ → Bool} → Numeral s n hex more → (rest : List ℕ) → begins more rest ≡ false → number_of (s ++ rest) ≡ placed_number (length s) n hex rest
-numeral-reads (rule.whole {s} {ds} w) rest h = whole-reads w rest (inr h) ∙ exponent-none (length s) (limited (spelled false ds)) rest (more-no_mark w rest h) ∙ end-limited (length s) (spelled false ds) false rest
+numeral-reads (rule.whole {s} {ds} w) rest h = whole-reads w rest (inr h) ∙ exponent-none (length s) (limited (spelled false ds)) rest (more-no_letter w rest h) ∙ end-limited (length s) (spelled false ds) false rest
 numeral-reads (rule.scaled e {s} {ds} {t} {es} w k i) rest h =
     let l : (length s + 1) + length t ≡ length (s ++ (e ∷ t)) = omega (arith, length-append s (e ∷ t)) in
-    ap number_of (append_assoc s (e ∷ t) rest) ∙ marked-reads w e k (t ++ rest) ∙ power-reads (length s + 1) (spelled false ds) i rest h ∙ ap (λ (m : ℕ). placed_number m (spelled false ds * 10 ^ spelled false es) false rest) l
+    ap number_of (append_assoc s (e ∷ t) rest) ∙ letter-reads w e k (t ++ rest) ∙ power-reads (length s + 1) (spelled false ds) i rest h ∙ ap (λ (m : ℕ). placed_number m (spelled false ds * 10 ^ spelled false es) false rest) l
 numeral-reads (rule.hexadecimal {s} {ds} i) rest h =
     let l : length s + 2 ≡ length (codes "0x" ++ s) = omega arith in
     hexadecimal-reads i rest h ∙ ap (λ (m : ℕ). placed_number m (spelled true ds) true rest) l
@@ -175,16 +175,16 @@ numeral-gap : {s : List ℕ} {n : ℕ} {hex : Bool} {more : ℕ → Bool} → Nu
 numeral-gap (rule.whole w) m rest h = whole-gap w m rest h
 numeral-gap (rule.scaled e {s} {ds} {t} {es} w k i) m rest h =
     let l : (length s + 1) + (length t + 1) ≡ length (s ++ (e ∷ t)) + 1 = omega (arith, length-append s (e ∷ t)) in
-    ap number_of (append_assoc s (e ∷ t) (95 ∷ rest)) ∙ marked-reads w e k (t ++ (95 ∷ rest)) ∙ power-gap (length s + 1) (limited (spelled false ds)) i rest h ∙ ap cut.BadByte l
+    ap number_of (append_assoc s (e ∷ t) (95 ∷ rest)) ∙ letter-reads w e k (t ++ (95 ∷ rest)) ∙ power-gap (length s + 1) (limited (spelled false ds)) i rest h ∙ ap cut.BadByte l
 numeral-gap (rule.hexadecimal {s} {ds} i) m rest h =
     let l : (length s + 1) + 2 ≡ length (codes "0x" ++ s) + 1 = omega arith in
     hexadecimal-gap i rest h ∙ ap cut.BadByte l
 
 pub unfinished-reads : {s : List ℕ} {hex : Bool} → Unfinished s hex → (rest : List ℕ) → begins (is_digit_of hex) rest ≡ false → number_of (s ++ rest) ≡ cut.BadByte (length s)
 unfinished-reads rule.after_x rest h = hexadecimal-wants rest h
-unfinished-reads (rule.after_mark e {s} {ds} w k) rest h =
+unfinished-reads (rule.after_letter e {s} {ds} w k) rest h =
     let l : (length s + 1) + 0 ≡ length (s ++ (e ∷ [])) = omega (arith, length-append s (e ∷ [])) in
-    ap number_of (append_assoc s (e ∷ []) rest) ∙ marked-reads w e k rest ∙ power-wants (length s + 1) (limited (spelled false ds)) rest h ∙ ap cut.BadByte l
+    ap number_of (append_assoc s (e ∷ []) rest) ∙ letter-reads w e k rest ∙ power-wants (length s + 1) (limited (spelled false ds)) rest h ∙ ap cut.BadByte l
 unfinished-reads (rule.after_gap {n} {s} {hex} i m) rest h =
     let l : length s + 1 ≡ length (s ++ (95 ∷ [])) = omega (arith, length-append s (95 ∷ [])) in
     ap number_of (append_assoc s (95 ∷ []) rest) ∙ numeral-gap i m rest h ∙ ap cut.BadByte l

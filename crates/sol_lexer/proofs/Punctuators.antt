@@ -2,14 +2,15 @@
 use Rattle.std.proofs.Common.{◌≡◌, ℕ, ◌≤◌, ◌<◌, max, Bool, true, false, not, ◌&&◌, ◌||◌, ◌==◌, if◌then◌else◌, List, [], ◌∷◌, ◌++◌, length, take, refl, sym, subst, ap, ◌∙◌, arith, ◌⊎◌, inl, inr}
 use Rattle.std.specs.Prelude.{codes}
 use Rattle.std.proofs.Math.Seq.{take-append_seam}
-use Rattle.std.proofs.lemmas.Bool.{and_parts, and_right, eqb-true, eq-eqb, ne_eqb, cases_Bool, or_cases, cases_lt}
+use Rattle.std.proofs.lemmas.Bool.{and_parts, and_right, eqb-true, eq-eqb, ne_eqb, cases_Bool, or_cases, or_left, or_right, cases_lt}
 use Rattle.std.proofs.lemmas.Slice.Eq.{bytes_eq-Decides}
 use Rattle.std.specs.Str.{bytes_eq}
 use Rattle.std.specs.Char.{is_ascii_digit}
 use Rattle.sol_tree.specs.Refused.{is_one_of}
 use Rattle.sol_lexer.specs.Bytes.{begins, begins_with, is_blank, is_quote, is_word_start}
 use Rattle.sol_lexer.specs.Reading.{cut_of, is_comment, longest, longest_mark, mark_of}
-use Rattle.sol_lexer.specs.Tables.{marks, refused_marks}
+use Rattle.sol_lexer.specs.Punctuators.{marks}
+use Rattle.sol_lexer.specs.RefusedPunctuators.{refused_marks}
 use Rattle.sol_lexer.specs.Tokens.{NoLonger, NoneStands, IsLongest, IsBad}
 use Rattle.sol_lexer.specs.declared.cut.Cut.{Cut}
 use Rattle.sol_lexer.specs.declared.cut.Cut.TheVariants as cut
@@ -22,12 +23,6 @@ same-word m v h = (bytes_eq-Decides m v).0 h
 
 word-same : (m v : List ℕ) → m ≡ v → bytes_eq m v ≡ true
 word-same m v h = (bytes_eq-Decides m v).1 h
-
-or_right : (x y : Bool) → y ≡ true → (x || y) ≡ true
-or_right x y h = grind arith
-
-or_left : (x y : Bool) → x ≡ true → (x || y) ≡ true
-or_left x y h = grind arith
 
 -- each of a table meets a test
 abbrev pub every : (List ℕ → Bool) → List (List ℕ) → Bool

@@ -13,7 +13,7 @@ use Rattle.sol_tree.specs.declared.token.TokenKind.{TokenKind}
 use Rattle.sol_tree.specs.declared.token.TokenKind.TheVariants as kind
 use Rattle.sol_lexer.specs.Bytes.{Each, is_word_byte}
 use Rattle.sol_lexer.specs.Reading.{cut_of}
-use Rattle.sol_lexer.specs.Tables.{marks}
+use Rattle.sol_lexer.specs.Punctuators.{marks}
 use Rattle.sol_lexer.specs.Steps.{Passes, Says, Splits}
 use Rattle.sol_lexer.specs.Tokens.{FaultAt, FaultFrom, IsWord, Piece, TokenizesFrom, token_of}
 use Rattle.sol_lexer.specs.Tokens as rule

@@ -8,7 +8,8 @@ use Rattle.std.specs.Char.{is_ascii_digit}
 use Rattle.sol_tree.specs.Refused.{is_one_of}
 use Rattle.sol_lexer.specs.Bytes.{begins, begins_with, is_blank, is_in_line, is_quote, is_word_byte, is_word_start}
 use Rattle.sol_lexer.specs.Reading.{block_end, block_of, close_of, closing_on, comment_of, cut_of, is_comment, judged, longest, longest_mark, pragma_of, run, text_end, text_of}
-use Rattle.sol_lexer.specs.Tables.{marks, refused_marks}
+use Rattle.sol_lexer.specs.Punctuators.{marks}
+use Rattle.sol_lexer.specs.RefusedPunctuators.{refused_marks}
 use Rattle.sol_lexer.specs.Tokens.{Holds, IsWord, IsLongest, IsBad, NoLonger, Piece, FaultAt, is_refused}
 use Rattle.sol_lexer.specs.Tokens as rule
 use Rattle.sol_lexer.specs.declared.lexer.LexFault.TheVariants as fault

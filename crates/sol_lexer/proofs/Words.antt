@@ -8,7 +8,7 @@ use Rattle.std.proofs.lemmas.Slice.Eq.{bytes_eq-Decides}
 use Rattle.std.specs.Str.{bytes_eq}
 use Rattle.std.specs.Char.{is_ascii_digit}
 use Rattle.sol_tree.specs.Refused.{is_refused_word, refused_words}
-use Rattle.sol_lexer.specs.Tables.{quoted_words}
+use Rattle.sol_lexer.specs.QuotedWords.{quoted_words}
 use Rattle.sol_lexer.specs.Bytes.{Each, begins, is_before_semicolon, is_blank, is_quote, is_word_byte, is_word_start}
 use Rattle.sol_lexer.specs.Reading.{comment_of, cut_of, is_comment, judged, mark_of, number_of, pragma_of, run, text_of, word_of}
 use Rattle.sol_lexer.specs.Tokens.{IsWord, is_refused}

@@ -32,8 +32,8 @@ abbrev pub is_printable : ℕ → Bool
 is_printable b = is_in_range 32 126 b
 
 -- `e` or `E`
-abbrev pub is_exponent_mark : ℕ → Bool
-is_exponent_mark b = b == 101 || b == 69
+abbrev pub is_exponent_letter : ℕ → Bool
+is_exponent_letter b = b == 101 || b == 69
 
 -- a digit, of hexadecimal or of decimal
 abbrev pub is_digit_of : Bool → ℕ → Bool

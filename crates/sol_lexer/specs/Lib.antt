@@ -1,5 +1,7 @@
 pub mod Bytes
+pub mod Punctuators
+pub mod QuotedWords
 pub mod Reading
+pub mod RefusedPunctuators
 pub mod Steps
-pub mod Tables
 pub mod Tokens

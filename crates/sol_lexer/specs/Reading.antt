@@ -3,8 +3,9 @@ use Rattle.std.specs.Prelude.{ℕ, ◌+◌, ◌*◌, ◌^◌, max, pos, Bool, tr
 use Rattle.std.specs.Str.{bytes_eq}
 use Rattle.std.specs.Char.{is_ascii_digit}
 use Rattle.sol_tree.specs.Refused.{is_one_of}
-use Rattle.sol_lexer.specs.Bytes.{base_of, begins, begins_with, digit_value, is_before_semicolon, is_blank, is_digit_of, is_exponent_mark, is_in_line, is_printable, is_quote, is_word_byte, is_word_start}
-use Rattle.sol_lexer.specs.Tables.{marks, refused_marks}
+use Rattle.sol_lexer.specs.Bytes.{base_of, begins, begins_with, digit_value, is_before_semicolon, is_blank, is_digit_of, is_exponent_letter, is_in_line, is_printable, is_quote, is_word_byte, is_word_start}
+use Rattle.sol_lexer.specs.Punctuators.{marks}
+use Rattle.sol_lexer.specs.RefusedPunctuators.{refused_marks}
 use Rattle.sol_lexer.specs.Tokens.{is_refused, runs_on}
 use Rattle.sol_lexer.specs.declared.bytes.Class.{Class}
 use Rattle.sol_lexer.specs.declared.bytes.Class.TheVariants as class
@@ -130,7 +131,7 @@ power_of len value text =
 
 abbrev pub exponent_of : ℕ → Option ℕ → List ℕ → Cut
 exponent_of len value [] = number_end len value false []
-exponent_of len value (b ∷ bs) = if is_exponent_mark b then power_of (len + 1) value bs else number_end len value false (b ∷ bs)
+exponent_of len value (b ∷ bs) = if is_exponent_letter b then power_of (len + 1) value bs else number_end len value false (b ∷ bs)
 
 abbrev pub positive_of : List ℕ → Cut
 positive_of text =

@@ -7,8 +7,10 @@ use Rattle.sol_tree.specs.Refused.{is_one_of, is_refused_word}
 use Rattle.sol_tree.specs.declared.token.Token.{Token}
 use Rattle.sol_tree.specs.declared.token.TokenKind.{TokenKind}
 use Rattle.sol_tree.specs.declared.token.TokenKind.TheVariants as kind
-use Rattle.sol_lexer.specs.Bytes.{Each, base_of, begins, begins_with, digit_value, is_before_semicolon, is_blank, is_digit_of, is_exponent_mark, is_in_line, is_printable, is_quote, is_word_byte, is_word_start}
-use Rattle.sol_lexer.specs.Tables.{marks, refused_marks, quoted_words}
+use Rattle.sol_lexer.specs.Bytes.{Each, base_of, begins, begins_with, digit_value, is_before_semicolon, is_blank, is_digit_of, is_exponent_letter, is_in_line, is_printable, is_quote, is_word_byte, is_word_start}
+use Rattle.sol_lexer.specs.Punctuators.{marks}
+use Rattle.sol_lexer.specs.RefusedPunctuators.{refused_marks}
+use Rattle.sol_lexer.specs.QuotedWords.{quoted_words}
 use Rattle.sol_lexer.specs.declared.lexer.LexFault.{LexFault}
 use Rattle.sol_lexer.specs.declared.lexer.LexFault.TheVariants as fault
 
@@ -54,23 +56,23 @@ goes_on hex b = is_digit_of hex b || b == 95
 -- number after it
 pub data Whole : List ℕ → List ℕ → (ℕ → Bool) → Type 0 where
   -- `x`, `e` and `E` are taken
-  zero_digit : Whole (codes "0") (codes "0") (λ b. b == 120 || is_exponent_mark b)
+  zero_digit : Whole (codes "0") (codes "0") (λ b. b == 120 || is_exponent_letter b)
   -- digits, `_`, `e` and `E` are taken
-  positive : {d : ℕ} {s ds : List ℕ} → d ≢ 48 → Digits false (d ∷ s) ds → Whole (d ∷ s) ds (λ b. goes_on false b || is_exponent_mark b)
+  positive : {d : ℕ} {s ds : List ℕ} → d ≢ 48 → Digits false (d ∷ s) ds → Whole (d ∷ s) ds (λ b. goes_on false b || is_exponent_letter b)
 
 -- a number, its value, whether it is hexadecimal, and which bytes are taken into it after it
 pub data Numeral : List ℕ → ℕ → Bool → (ℕ → Bool) → Type 0 where
   -- digits alone
   whole : {s ds : List ℕ} {more : ℕ → Bool} → Whole s ds more → Numeral s (spelled false ds) false more
   -- `e` or `E` and a power of ten; then digits and `_` are taken
-  scaled : (e : ℕ) {s ds t es : List ℕ} {more : ℕ → Bool} → Whole s ds more → is_exponent_mark e ≡ true → Digits false t es → Numeral (s ++ (e ∷ t)) (spelled false ds * 10 ^ spelled false es) false (goes_on false)
+  scaled : (e : ℕ) {s ds t es : List ℕ} {more : ℕ → Bool} → Whole s ds more → is_exponent_letter e ≡ true → Digits false t es → Numeral (s ++ (e ∷ t)) (spelled false ds * 10 ^ spelled false es) false (goes_on false)
   -- `0x` and hexadecimal digits; then such digits and `_` are taken
   hexadecimal : {s ds : List ℕ} → Digits true s ds → Numeral (codes "0x" ++ s) (spelled true ds) true (goes_on true)
 
 -- the beginning of a number, after which a digit must follow, a hexadecimal one or a decimal one
 pub data Unfinished : List ℕ → Bool → Type 0 where
   after_x : Unfinished (codes "0x") true
-  after_mark : (e : ℕ) {s ds : List ℕ} {more : ℕ → Bool} → Whole s ds more → is_exponent_mark e ≡ true → Unfinished (s ++ (e ∷ [])) false
+  after_letter : (e : ℕ) {s ds : List ℕ} {more : ℕ → Bool} → Whole s ds more → is_exponent_letter e ≡ true → Unfinished (s ++ (e ∷ [])) false
   after_gap : {n : ℕ} {s : List ℕ} {hex : Bool} {more : ℕ → Bool} → Numeral s n hex more → more 95 ≡ true → Unfinished (s ++ (95 ∷ [])) hex
 
 -- what may not follow a number: a letter, digit, `_` or `$`, or a `.` (which is 46) and a digit

@@ -1,7 +1,7 @@
 // Classes of bytes, and runs of them.
 
 ghost use Rattle.std.specs.Prelude.{◌≡◌, ◌≤◌, length, false};
-ghost use Rattle.sol_lexer.specs.Bytes.{begins, begins_with, is_digit_of, is_exponent_mark, is_in_line, is_printable, is_quote, is_word_byte, is_word_start};
+ghost use Rattle.sol_lexer.specs.Bytes.{begins, begins_with, is_digit_of, is_exponent_letter, is_in_line, is_printable, is_quote, is_word_byte, is_word_start};
 ghost use Rattle.sol_lexer.specs.Reading.{in_class, run};
 
 /// What a run is made of.
@@ -45,8 +45,8 @@ pub fn is_printable(byte: u8) -> bool
     b' ' <= byte && byte <= b'~'
 }
 
-pub fn is_exponent_mark(byte: u8) -> bool
-    ensures { result ≡ is_exponent_mark byte }
+pub fn is_exponent_letter(byte: u8) -> bool
+    ensures { result ≡ is_exponent_letter byte }
 {
     byte == b'e' || byte == b'E'
 }

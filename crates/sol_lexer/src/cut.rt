@@ -107,7 +107,7 @@ fn pragma(text: &[u8]) -> Cut
 }
 
 // Whether a word is outside the language where this follows it.
-#[tactic(auto, unfolding(crate::specs::Tables::quoted_words))]
+#[tactic(auto, unfolding(crate::specs::QuotedWords::quoted_words))]
 fn is_refused(word: &[u8], rest: &[u8]) -> bool
     ensures { result ≡ is_refused word.now rest.now }
 {

@@ -9,4 +9,3 @@ mod marks;
 mod numbers;
 
 pub use lexer::{LexFault, lex, token_laws};
-pub use marks::{MARKS, REFUSED_MARKS};

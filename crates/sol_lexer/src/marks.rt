@@ -3,20 +3,20 @@
 ghost use Rattle.std.specs.Prelude.{◌≡◌, ◌≤◌, length};
 ghost use Rattle.sol_tree.specs.Refused.{is_one_of, texts};
 ghost use Rattle.sol_lexer.specs.Reading.{longest, longest_mark, mark_of};
-ghost use Rattle.sol_lexer.specs.Tables.{marks};
+ghost use Rattle.sol_lexer.specs.Punctuators.{marks};
 
 use crate::bytes::begins_with;
 use crate::cut::Cut;
 use sol_tree::is_one_of;
 
-/// The punctuators of the language.
-pub const MARKS: [&str; 35] = [
+// The punctuators of the language.
+const MARKS: [&str; 35] = [
     "(", ")", "[", "]", "{", "}", ";", ",", ".", "=", "+", "-", "*", "/", "%", "!", "<", ">", "?",
     ":", "==", "!=", "<=", ">=", "&&", "||", "++", "--", "+=", "-=", "*=", "/=", "%=", "**", "=>",
 ];
 
-/// The punctuators of Solidity that are outside the language.
-pub const REFUSED_MARKS: [&str; 15] = [
+// The punctuators of Solidity that are outside the language.
+const REFUSED_MARKS: [&str; 15] = [
     "&", "|", "^", "~", "<<", ">>", ">>>", "&=", "|=", "^=", "<<=", ">>=", ">>>=", "->", ":=",
 ];
 
@@ -38,7 +38,7 @@ fn longest(marks: &[&str], text: &[u8]) -> usize
 }
 
 // The longest punctuator at the head of a text, of the language or outside it.
-#[tactic(auto, unfolding(crate::specs::Tables::marks, crate::specs::Tables::refused_marks))]
+#[tactic(auto, unfolding(crate::specs::Punctuators::marks, crate::specs::RefusedPunctuators::refused_marks))]
 fn longest_mark(text: &[u8]) -> usize
     ensures equal { result ≡ longest_mark text.now }
     ensures within { result ≤ length text.now }
@@ -49,7 +49,7 @@ fn longest_mark(text: &[u8]) -> usize
 }
 
 // Whether this is a punctuator of the language.
-#[tactic(auto, unfolding(crate::specs::Tables::marks))]
+#[tactic(auto, unfolding(crate::specs::Punctuators::marks))]
 fn is_mark(text: &[u8]) -> bool
     ensures { result ≡ is_one_of text.now marks }
 {

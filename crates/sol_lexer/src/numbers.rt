@@ -5,7 +5,7 @@ ghost use Rattle.sol_lexer.specs.Bytes.{base_of, digit_value};
 ghost use Rattle.sol_lexer.specs.Tokens.{runs_on};
 ghost use Rattle.sol_lexer.specs.Reading.{digits_of, exponent_of, grown, hexadecimal_of, limited, number_end, number_of, placed_number, positive_of, after_zero, power_of, scaled, times_power};
 
-use crate::bytes::{begins_with_digit, is_digit_of, is_exponent_mark, is_word_byte};
+use crate::bytes::{begins_with_digit, is_digit_of, is_exponent_letter, is_word_byte};
 use crate::cut::Cut;
 
 /// Digits that were read, with `_` between some.
@@ -166,7 +166,7 @@ fn exponent(len: usize, value: Option<u128>, text: &[u8]) -> Cut
     match text {
         [] => number_end(len, value, false, text),
         [byte, more @ ..] => {
-            if is_exponent_mark(*byte) {
+            if is_exponent_letter(*byte) {
                 power(len + 1, value, more)
             } else {
                 number_end(len, value, false, text)
@@ -175,7 +175,7 @@ fn exponent(len: usize, value: Option<u128>, text: &[u8]) -> Cut
     }
 }
 
-// What follows the mark of an exponent, where the number takes `len` bytes up to that mark.
+// What follows the letter of an exponent, where the number takes `len` bytes up to that letter.
 fn power(len: usize, value: Option<u128>, text: &[u8]) -> Cut
     requires { len + length text.now < 2 ^ 32 }
     ensures { result ≡ power_of len value text.now }

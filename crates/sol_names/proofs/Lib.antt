@@ -1,6 +1,9 @@
 pub mod Counting
 pub mod Merging
 pub mod Ordering
+pub mod Once
+pub mod Scheduling
+pub mod Settling
 pub mod Naming
 pub mod Supplying
 pub mod Graphs

@@ -3,7 +3,7 @@ use Rattle.std.proofs.Common.{◌≡◌, ◌∙◌, sym, ap, refl, subst, ℕ, �
 use Rattle.std.specs.List.{list_any, flat_map, position_from}
 use Rattle.std.specs.Option.{option_or}
 use Rattle.std.specs.Str.{bytes_eq}
-use Rattle.std.specs.BTreeMap.{BTreeMap}
+use Rattle.indexmap.specs.IndexMap.{IndexMap}
 use Rattle.std.proofs.lemmas.Bool.{and_parts}
 use Rattle.std.proofs.lemmas.List.Folds.{list_any-append}
 use Rattle.std.proofs.lemmas.Slice.Eq.{bytes_eq-Decides}
@@ -21,11 +21,11 @@ use Rattle.sol_names.specs.Orders.{is_called, repeated_after, repeated, named_tw
 
 -- ---- names that were seen
 
-abbrev pub Numbers : Type 0
-Numbers = BTreeMap (Bor (List ℕ)) ℕ
+abbrev pub Numbers : Type 0 → Type 0
+Numbers S = IndexMap (Bor (List ℕ)) ℕ S
 
 -- a map has a number for just these names
-abbrev pub HasSeen : Numbers → List Identifier → Type 0
+abbrev pub HasSeen : {S : Type 0} → Numbers S → List Identifier → Type 0
 HasSeen m before = (q : List ℕ) → is_some (number_of m q) ≡ list_any (is_called q) before
 
 again : (s a e : Bool) → s ≡ a → (e ≡ true → s ≡ true) → s ≡ (a || (e || false))
@@ -39,12 +39,12 @@ anew true false n o h = h
 anew false true n o h = refl
 anew false false n o h = h
 
-seen-again : (m : Numbers) (before : List Identifier) (i : Identifier) → HasSeen m before → is_some (number_of m i.name) ≡ true → HasSeen m (before ++ i ∷ [])
+seen-again : {S : Type 0} (m : Numbers S) (before : List Identifier) (i : Identifier) → HasSeen m before → is_some (number_of m i.name) ≡ true → HasSeen m (before ++ i ∷ [])
 seen-again m before i h s q =
     again (is_some (number_of m q)) (list_any (is_called q) before) (bytes_eq i.name q) (h q) (λ e. let same : i.name ≡ q = (bytes_eq-Decides i.name q).0 e in subst (λ (r : List ℕ). is_some (number_of m r) ≡ true) same s)
     ∙ sym (list_any-append (is_called q) before (i ∷ []))
 
-seen-anew : (m new : Numbers) (before : List Identifier) (i : Identifier) (n : ℕ) → HasSeen m before → ((q : List ℕ) → number_of new q ≡ (if bytes_eq i.name q then Some n else number_of m q)) → HasSeen new (before ++ i ∷ [])
+seen-anew : {S : Type 0} (m new : Numbers S) (before : List Identifier) (i : Identifier) (n : ℕ) → HasSeen m before → ((q : List ℕ) → number_of new q ≡ (if bytes_eq i.name q then Some n else number_of m q)) → HasSeen new (before ++ i ∷ [])
 seen-anew m new before i n h s q =
     ap (λ (o : Option ℕ). is_some o) (s q)
     ∙ anew (list_any (is_called q) before) (bytes_eq i.name q) n (number_of m q) (h q)
@@ -54,13 +54,13 @@ abbrev nobody : Named
 nobody = record { at = 0; text = record { ref_ptr = (0, 0); now = [] } }
 
 -- what the loop over names keeps
-abbrev pub Repeats : Numbers → Option ℕ → List Named → Option ℕ → Type 0
+abbrev pub Repeats : {S : Type 0} → Numbers S → Option ℕ → List Named → Option ℕ → Type 0
 Repeats m least rest whole = (before : List Identifier) × HasSeen m before × (least_from least (repeated_after before (map identifier_of rest)) ≡ whole)
 
 abbrev pub after_first : List Named → List Named
 after_first rest = take (length rest - 1) (drop 1 rest)
 
-pub repeats-again : (m : Numbers) (least : Option ℕ) (rest : List Named) (whole : Option ℕ) → 1 ≤ length rest → is_some (number_of m (slice_index_or rest 0 nobody).text.now) ≡ true → Repeats m least rest whole → Repeats m (lesser least (slice_index_or rest 0 nobody).at) (after_first rest) whole
+pub repeats-again : {S : Type 0} (m : Numbers S) (least : Option ℕ) (rest : List Named) (whole : Option ℕ) → 1 ≤ length rest → is_some (number_of m (slice_index_or rest 0 nobody).text.now) ≡ true → Repeats m least rest whole → Repeats m (lesser least (slice_index_or rest 0 nobody).at) (after_first rest) whole
 repeats-again m least [] whole one s r = absurd (omega arith)
 repeats-again m least (n ∷ rest) whole one s (before, h, e) =
     let k : length (n ∷ rest) - 1 ≡ length rest = omega arith in
@@ -69,7 +69,7 @@ repeats-again m least (n ∷ rest) whole one s (before, h, e) =
     let here : repeated_after before (map identifier_of (n ∷ rest)) ≡ i.at ∷ repeated_after (before ++ i ∷ []) (map identifier_of rest) = ap (λ (b : Bool). (if b then i.at ∷ [] else []) ++ repeated_after (before ++ i ∷ []) (map identifier_of rest)) there in
     rw (k, take-length rest) (before ++ i ∷ [], seen-again m before i h s, ap (least_from least) (sym here) ∙ e)
 
-pub repeats-anew : (m new : Numbers) (least : Option ℕ) (rest : List Named) (whole : Option ℕ) (number : ℕ) → 1 ≤ length rest → is_some (number_of m (slice_index_or rest 0 nobody).text.now) ≡ false → ((q : List ℕ) → number_of new q ≡ (if bytes_eq (slice_index_or rest 0 nobody).text.now q then Some number else number_of m q)) → Repeats m least rest whole → Repeats new least (after_first rest) whole
+pub repeats-anew : {S : Type 0} (m new : Numbers S) (least : Option ℕ) (rest : List Named) (whole : Option ℕ) (number : ℕ) → 1 ≤ length rest → is_some (number_of m (slice_index_or rest 0 nobody).text.now) ≡ false → ((q : List ℕ) → number_of new q ≡ (if bytes_eq (slice_index_or rest 0 nobody).text.now q then Some number else number_of m q)) → Repeats m least rest whole → Repeats new least (after_first rest) whole
 repeats-anew m new least [] whole number one s f r = absurd (omega arith)
 repeats-anew m new least (n ∷ rest) whole number one s f (before, h, e) =
     let k : length (n ∷ rest) - 1 ≡ length rest = omega arith in
@@ -124,7 +124,7 @@ some-there true false e f = absurd (cc)
 some-there false s e f = absurd (cc)
 
 -- the unit is the first of its name
-pub contracts-set : (q : List ℕ) (u : units.Unit) (rest : List units.Unit) (old new : Numbers) (k next : ℕ) (whole : Option ℕ) → 1 ≤ length rest → u ≡ get_or rest 0 u → next ≡ suc k → (is_contract u && not (is_some (number_of old (unit_name u).name))) ≡ true → number_of new q ≡ (if bytes_eq (unit_name u).name q then Some k else number_of old q) → option_or (number_of old q) (position_from (is_contract_of q) k rest) ≡ whole → option_or (number_of new q) (position_from (is_contract_of q) next (take (length rest - 1) (drop 1 rest))) ≡ whole
+pub contracts-set : {S : Type 0} (q : List ℕ) (u : units.Unit) (rest : List units.Unit) (old new : Numbers S) (k next : ℕ) (whole : Option ℕ) → 1 ≤ length rest → u ≡ get_or rest 0 u → next ≡ suc k → (is_contract u && not (is_some (number_of old (unit_name u).name))) ≡ true → number_of new q ≡ (if bytes_eq (unit_name u).name q then Some k else number_of old q) → option_or (number_of old q) (position_from (is_contract_of q) k rest) ≡ whole → option_or (number_of new q) (position_from (is_contract_of q) next (take (length rest - 1) (drop 1 rest))) ≡ whole
 contracts-set q u [] old new k next whole one e n f g h = absurd (omega arith)
 contracts-set q u (v ∷ rest) old new k next whole one e n f g h =
     let l : length (v ∷ rest) - 1 ≡ length rest = omega arith in
@@ -139,7 +139,7 @@ contracts-set q u (v ∷ rest) old new k next whole one e n f g h =
     ∙ h)
 
 -- it isn't
-pub contracts-kept : (q : List ℕ) (u : units.Unit) (rest : List units.Unit) (old : Numbers) (k next : ℕ) (whole : Option ℕ) → 1 ≤ length rest → u ≡ get_or rest 0 u → next ≡ suc k → (is_contract u && not (is_some (number_of old (unit_name u).name))) ≡ false → option_or (number_of old q) (position_from (is_contract_of q) k rest) ≡ whole → option_or (number_of old q) (position_from (is_contract_of q) next (take (length rest - 1) (drop 1 rest))) ≡ whole
+pub contracts-kept : {S : Type 0} (q : List ℕ) (u : units.Unit) (rest : List units.Unit) (old : Numbers S) (k next : ℕ) (whole : Option ℕ) → 1 ≤ length rest → u ≡ get_or rest 0 u → next ≡ suc k → (is_contract u && not (is_some (number_of old (unit_name u).name))) ≡ false → option_or (number_of old q) (position_from (is_contract_of q) k rest) ≡ whole → option_or (number_of old q) (position_from (is_contract_of q) next (take (length rest - 1) (drop 1 rest))) ≡ whole
 contracts-kept q u [] old k next whole one e n f h = absurd (omega arith)
 contracts-kept q u (v ∷ rest) old k next whole one e n f h =
     let l : length (v ∷ rest) - 1 ≡ length rest = omega arith in

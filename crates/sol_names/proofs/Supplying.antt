@@ -38,14 +38,14 @@ given-none us f q before v s e h =
     or-nothing false false e = refl
 
 -- what the loop over an order keeps
-abbrev pub Missing : List units.Unit → Numbers → Numbers → List ℕ → Bool → Type 0
+abbrev pub Missing : {S : Type 0} → List units.Unit → Numbers S → Numbers S → List ℕ → Bool → Type 0
 Missing us functions variables rest whole = (before : List ℕ) × AreSupplied us before functions variables × (misses_after us before rest ≡ whole)
 
 abbrev pub after_first : List ℕ → List ℕ
 after_first rest = take (length rest - 1) (drop 1 rest)
 
 -- a unit that misses nothing
-pub missing-more : (us : List units.Unit) (functions variables more_functions more_variables : Numbers) (rest : List ℕ) (whole : Bool) (u : units.Unit) (b : Bool) → 1 ≤ length rest → Some u ≡ slice_get us (slice_index rest 0) → ((before : List ℕ) → AreSupplied us before functions variables → b ≡ misses us before u) → b ≡ false → ((q : List ℕ) → is_some (number_of more_functions q) ≡ (is_some (number_of functions q) || list_any (gives implemented q) (members u))) → ((q : List ℕ) → is_some (number_of more_variables q) ≡ (is_some (number_of variables q) || list_any (gives exposed q) (members u))) → Missing us functions variables rest whole → Missing us more_functions more_variables (after_first rest) whole
+pub missing-more : {S : Type 0} (us : List units.Unit) (functions variables more_functions more_variables : Numbers S) (rest : List ℕ) (whole : Bool) (u : units.Unit) (b : Bool) → 1 ≤ length rest → Some u ≡ slice_get us (slice_index rest 0) → ((before : List ℕ) → AreSupplied us before functions variables → b ≡ misses us before u) → b ≡ false → ((q : List ℕ) → is_some (number_of more_functions q) ≡ (is_some (number_of functions q) || list_any (gives implemented q) (members u))) → ((q : List ℕ) → is_some (number_of more_variables q) ≡ (is_some (number_of variables q) || list_any (gives exposed q) (members u))) → Missing us functions variables rest whole → Missing us more_functions more_variables (after_first rest) whole
 missing-more us functions variables more_functions more_variables [] whole u b one e m n f g h = absurd (omega arith)
 missing-more us functions variables more_functions more_variables (v ∷ rest) whole u b one e m n f g (before, s, i) =
     let k : length (v ∷ rest) - 1 ≡ length rest = omega arith in
@@ -61,7 +61,7 @@ missing-more us functions variables more_functions more_variables (v ∷ rest) w
     )
 
 -- a place without a unit
-pub missing-none : (us : List units.Unit) (functions variables : Numbers) (rest : List ℕ) (whole : Bool) → 1 ≤ length rest → None ≡ slice_get us (slice_index rest 0) → Missing us functions variables rest whole → Missing us functions variables (after_first rest) whole
+pub missing-none : {S : Type 0} (us : List units.Unit) (functions variables : Numbers S) (rest : List ℕ) (whole : Bool) → 1 ≤ length rest → None ≡ slice_get us (slice_index rest 0) → Missing us functions variables rest whole → Missing us functions variables (after_first rest) whole
 missing-none us functions variables [] whole one e h = absurd (omega arith)
 missing-none us functions variables (v ∷ rest) whole one e (before, s, i) =
     let k : length (v ∷ rest) - 1 ≡ length rest = omega arith in

@@ -1,8 +1,9 @@
 -- What merging and ordering answer, and the orders that are known so far.
-use Rattle.std.specs.Prelude.{◌≡◌, ◌<◌, ℕ, suc, List, [], ◌∷◌, ◌++◌, Option, Some, None, unwrap_or, slice_get, slice_set, Bool, true, false}
+use Rattle.std.specs.Prelude.{◌≡◌, ◌+◌, ℕ, List, [], ◌∷◌, ◌++◌, Option, Some, None, is_some, unwrap_or, slice_get, slice_index, Bool, true, false, ◌⊎◌}
 use Rattle.chc_nums.specs.Values.{with_value}
 use Rattle.sol_names.specs.Linearization.{Merges, Linearizes}
-use Rattle.sol_names.specs.Tails.{Below}
+use Rattle.sol_names.specs.Schedule.{has}
+use Rattle.sol_names.specs.Tails.{Below, times}
 
 -- the lists merged into one, or none where they can't be merged
 abbrev pub IsMerge : List (List ℕ) → Option (List ℕ) → Type 0
@@ -39,26 +40,40 @@ IsNext os bs u (Some o) = (ls : List (List ℕ)) × (rest : List ℕ) × (to_mer
 abbrev pub AreRight : List (List ℕ) → List (Option (List ℕ)) → Type 0
 AreRight g os = (u : ℕ) (o : List ℕ) → known os u ≡ Some o → Linearizes g u o
 
--- no further order can be told from the known ones
-abbrev pub AllStuck : List (List ℕ) → List (Option (List ℕ)) → Type 0
-AllStuck g os = (u : ℕ) (bs : List ℕ) → slice_get g u ≡ Some bs → known os u ≡ None → IsNext os bs u None
-
 -- the numbers of known orders are below another
 abbrev pub KnownBelow : ℕ → List (Option (List ℕ)) → Type 0
 KnownBelow n os = (u : ℕ) (o : List ℕ) → known os u ≡ Some o → Below n o
 
--- how many orders aren't known
-abbrev pub unknown : List (Option (List ℕ)) → ℕ
-unknown [] = 0
-unknown (None ∷ os) = suc (unknown os)
-unknown (Some o ∷ os) = unknown os
+-- the orders of some units are known
+abbrev pub AllKnown : List (Option (List ℕ)) → List ℕ → Type 0
+AllKnown os bs = (b : ℕ) → has b bs ≡ true → is_some (known os b) ≡ true
 
--- what one unit with these bases adds: its order, where it wasn't known and can be told; or nothing
-abbrev pub Settles : List (Option (List ℕ)) → List ℕ → ℕ → Bool → List (Option (List ℕ)) → Type 0
-Settles old bs u true new = (o : List ℕ) × (known old u ≡ None) × IsNext old bs u (Some o) × (new ≡ slice_set old u (Some o))
-Settles old bs u false new = (new ≡ old) × (known old u ≡ None → IsNext old bs u None)
+-- ---- how often orders are used
 
--- what a pass over all units adds
-abbrev pub Passes : List (List ℕ) → List (Option (List ℕ)) → Bool → List (Option (List ℕ)) → Type 0
-Passes g old true new = unknown new < unknown old
-Passes g old false new = (new ≡ old) × AllStuck g new
+-- the bases of a unit
+abbrev pub bases_of : List (List ℕ) → ℕ → List ℕ
+bases_of g u = unwrap_or (slice_get g u) []
+
+-- how often a unit is a base of some units
+abbrev pub uses : List (List ℕ) → ℕ → List ℕ → ℕ
+uses g x [] = 0
+uses g x (w ∷ ws) = times x (bases_of g w) + uses g x ws
+
+-- known orders stay, but for some of bases that are used just once
+abbrev pub Forgets : List ℕ → List ℕ → List (Option (List ℕ)) → List (Option (List ℕ)) → Type 0
+Forgets used bs old new = (x : ℕ) → (known new x ≡ known old x) ⊎ ((known new x ≡ None) × (has x bs ≡ true) × (slice_index used x ≡ 1))
+
+-- what is found of a unit with these bases
+abbrev pub Finds : List (List ℕ) → List (Option (List ℕ)) → List ℕ → ℕ → Option (List ℕ) → Type 0
+Finds g os bs w None = AllKnown os bs → (o : List ℕ) → Linearizes g w o → ⊥
+Finds g os bs w (Some o) = Linearizes g w o
+
+-- what one unit adds: its order, or nothing where it has none
+abbrev pub Settles : List (List ℕ) → List ℕ → List (Option (List ℕ)) → ℕ → Bool → List (Option (List ℕ)) → Type 0
+Settles g used old w true new = (o : List ℕ) × Linearizes g w o × (known new w ≡ Some o) × ((x : ℕ) → (x ≡ w → ⊥) → (known new x ≡ known old x) ⊎ ((known new x ≡ None) × (has x (bases_of g w) ≡ true) × (slice_index used x ≡ 1)))
+Settles g used old w false new = AllKnown old (bases_of g w) → (o : List ℕ) → Linearizes g w o → ⊥
+
+-- the order of the last unit became known, or it has none
+abbrev pub SettlesAll : List (List ℕ) → ℕ → Bool → List (Option (List ℕ)) → Type 0
+SettlesAll g u true new = AreRight g new × (is_some (known new u) ≡ true)
+SettlesAll g u false new = (o : List ℕ) → Linearizes g u o → ⊥

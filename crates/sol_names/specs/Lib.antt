@@ -1,6 +1,8 @@
 pub mod Linearization
 pub mod Tails
 pub mod Known
+pub mod Schedule
+pub mod Search
 pub mod Units
 pub mod Least
 pub mod Names

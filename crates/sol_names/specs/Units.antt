@@ -7,11 +7,11 @@ use Rattle.sol_tree.specs.declared.file.Unit.TheVariants as unit
 use Rattle.sol_tree.specs.declared.file.Base.{Base}
 use Rattle.sol_tree.specs.declared.file.Member.{Member}
 use Rattle.sol_tree.specs.declared.file.Member.TheVariants as member
-use Rattle.sol_tree.specs.declared.file.VarMark.{VarMark}
-use Rattle.sol_tree.specs.declared.file.VarMark.TheVariants as varmark
+use Rattle.sol_tree.specs.declared.file.VarSpecifier.{VarSpecifier}
+use Rattle.sol_tree.specs.declared.file.VarSpecifier.TheVariants as varspecifier
 use Rattle.sol_tree.specs.declared.file.Var.{Var}
-use Rattle.sol_tree.specs.declared.file.FunMark.{FunMark}
-use Rattle.sol_tree.specs.declared.file.FunMark.TheVariants as funmark
+use Rattle.sol_tree.specs.declared.file.FunSpecifier.{FunSpecifier}
+use Rattle.sol_tree.specs.declared.file.FunSpecifier.TheVariants as funspecifier
 use Rattle.sol_tree.specs.declared.file.Fun.{Fun}
 
 -- a contract or an interface
@@ -61,32 +61,32 @@ member_name (member.Modifier at m) = m.name
 member_name (member.Event at e) = e.name
 member_name (member.Error at e) = e.name
 
--- ---- marks
+-- ---- specifiers
 
-abbrev pub is_private_mark : FunMark → Bool
-is_private_mark (funmark.Public at) = false
-is_private_mark (funmark.External at) = false
-is_private_mark (funmark.Internal at) = false
-is_private_mark (funmark.Private at) = true
-is_private_mark (funmark.View at) = false
-is_private_mark (funmark.Pure at) = false
-is_private_mark (funmark.Virtual at) = false
-is_private_mark (funmark.Override at m) = false
-is_private_mark (funmark.Base at b) = false
+abbrev pub is_private_specifier : FunSpecifier → Bool
+is_private_specifier (funspecifier.Public at) = false
+is_private_specifier (funspecifier.External at) = false
+is_private_specifier (funspecifier.Internal at) = false
+is_private_specifier (funspecifier.Private at) = true
+is_private_specifier (funspecifier.View at) = false
+is_private_specifier (funspecifier.Pure at) = false
+is_private_specifier (funspecifier.Virtual at) = false
+is_private_specifier (funspecifier.Override at m) = false
+is_private_specifier (funspecifier.Base at b) = false
 
 abbrev pub is_private : Fun → Bool
-is_private f = list_any is_private_mark f.marks
+is_private f = list_any is_private_specifier f.specifiers
 
-abbrev pub is_public_mark : VarMark → Bool
-is_public_mark (varmark.Public at) = true
-is_public_mark (varmark.Internal at) = false
-is_public_mark (varmark.Private at) = false
-is_public_mark (varmark.Constant at) = false
-is_public_mark (varmark.Immutable at) = false
-is_public_mark (varmark.Override at m) = false
+abbrev pub is_public_specifier : VarSpecifier → Bool
+is_public_specifier (varspecifier.Public at) = true
+is_public_specifier (varspecifier.Internal at) = false
+is_public_specifier (varspecifier.Private at) = false
+is_public_specifier (varspecifier.Constant at) = false
+is_public_specifier (varspecifier.Immutable at) = false
+is_public_specifier (varspecifier.Override at m) = false
 
 abbrev pub is_public : Var → Bool
-is_public v = list_any is_public_mark v.marks
+is_public v = list_any is_public_specifier v.specifiers
 
 -- ---- what a member gives to more general contracts
 

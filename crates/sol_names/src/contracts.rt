@@ -1,19 +1,27 @@
 // Which names a file has twice, which contract is chosen, and which units are the bases of each.
 
-ghost use Rattle.std.specs.Prelude.{◌≡◌, ℕ, List, ◌++◌, map, option_map, IfOk, is_some, not, ◌&&◌};
-ghost use Rattle.std.specs.List.{flat_map};
+ghost use Rattle.std.specs.Prelude.{◌≡◌, ℕ, suc, List, map, option_map, IfOk, is_some, not, ◌&&◌};
 ghost use Rattle.sol_names.specs.Least.{least_from, least_in};
 ghost use Rattle.sol_names.specs.Names.{identifier_of, number_of};
 ghost use Rattle.sol_names.specs.Units.{is_contract, unit_name, member_name, members, bases};
-ghost use Rattle.sol_names.specs.Orders.{repeated, named_twice, contract_named, last_concrete, chosen, unknown_among, unknown_bases, base_places, base_graph};
+ghost use Rattle.sol_names.specs.Orders.{named_twice, contract_named, last_concrete, chosen, unknown_among, unknown_bases, base_places, base_graph};
 
-use crate::linearize::next;
 use crate::names::{Named, Numbers, least_repeated, lesser, number_of, set_number};
 use crate::units::{bases, is_concrete, is_contract, member_name, members, unit_name};
 use chc_nums::{List, NoMemory};
+use indexmap::IndexMap;
 use sol_tree::{Base, Member, Unit};
 use std::alloc::Global;
-use std::collections::BTreeMap;
+
+// The place after another.
+fn next(place: u32) -> Result<u32, NoMemory>
+    ensures { IfOk result (λ m. m ≡ suc place) }
+{
+    match place.checked_add(1) {
+        None => Err(NoMemory),
+        Some(next) => Ok(next),
+    }
+}
 
 fn unit_names<'a>(alloc: Global, units: &'a [Unit]) -> Result<Vec<Named<'a>>, NoMemory>
     ensures { IfOk result (λ v. map identifier_of v.items ≡ map unit_name units.now) }
@@ -61,7 +69,7 @@ fn is_first<'a>(numbers: &Numbers<'a>, unit: &'a Unit) -> bool
 pub fn contracts<'a>(alloc: Global, units: &'a [Unit]) -> Result<Numbers<'a>, NoMemory>
     ensures { IfOk result (λ m. (q : List ℕ) → number_of m q ≡ contract_named q units.now) }
 {
-    let mut numbers = BTreeMap::new(alloc);
+    let mut numbers = IndexMap::new(alloc);
     let mut place = 0u32;
     let mut rest = units;
     while let [unit, more @ ..] = rest {

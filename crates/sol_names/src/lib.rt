@@ -9,9 +9,8 @@ mod lineage;
 mod linearize;
 mod merge;
 mod names;
+mod schedule;
 mod supplied;
-#[cfg(test)]
-mod tests;
 mod units;
 
 pub use fault::NameFault;

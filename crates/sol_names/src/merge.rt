@@ -20,7 +20,7 @@ fn count_tail(counts: &mut [u32], list: &[u32]) -> Result<(), NoMemory>
     count_all(counts, tail)
 }
 
-fn count_all(counts: &mut [u32], numbers: &[u32]) -> Result<(), NoMemory>
+pub fn count_all(counts: &mut [u32], numbers: &[u32]) -> Result<(), NoMemory>
     requires { Below (length counts.old) numbers.now }
     ensures { OnOk result ((u : ℕ) → u < length counts.old → slice_index counts.new u ≡ slice_index counts.old u + times u numbers.now) }
 {

@@ -6,8 +6,8 @@ ghost use Rattle.sol_names.specs.Names.{identifier_of, number_of};
 ghost use Rattle.sol_names.specs.Orders.{repeated};
 
 use chc_nums::NoMemory;
+use indexmap::IndexMap;
 use std::alloc::Global;
-use std::collections::BTreeMap;
 
 // A name as it is written at a place.
 #[derive(Clone, Copy)]
@@ -16,7 +16,7 @@ pub struct Named<'a> {
     pub text: &'a str,
 }
 
-pub type Numbers<'a> = BTreeMap<&'a str, u32>;
+pub type Numbers<'a> = IndexMap<&'a str, u32>;
 
 pub fn number_of<'a>(numbers: &Numbers<'a>, name: &'a str) -> Option<u32>
     ensures { result ≡ number_of numbers.now name.now }
@@ -49,7 +49,7 @@ pub fn least_repeated(
     ensures { IfOk result (λ o. o ≡ least_from least (repeated (map identifier_of names.now))) }
 {
     let mut least = least;
-    let mut seen = BTreeMap::new(alloc);
+    let mut seen = IndexMap::new(alloc);
     let mut rest = names;
     while let [name, more @ ..] = rest {
         if number_of(&seen, name.text).is_some() {

@@ -11,9 +11,9 @@ ghost use Rattle.sol_names.specs.Supplied.{AreSupplied};
 use crate::names::{Numbers, number_of, set_number};
 use crate::units::{exposed, implemented, is_concrete, is_interface, is_private, members, unit_at};
 use chc_nums::NoMemory;
+use indexmap::IndexMap;
 use sol_tree::{Member, Unit};
 use std::alloc::Global;
-use std::collections::BTreeMap;
 
 fn add_functions<'a>(numbers: &mut Numbers<'a>, members: &'a [Member]) -> Result<(), NoMemory>
     ensures { OnOk result ((q : List ℕ) → is_some (number_of numbers.new q) ≡ (is_some (number_of numbers.old q) || list_any (gives implemented q) members.now)) }
@@ -88,8 +88,8 @@ fn misses<'a>(functions: &Numbers<'a>, variables: &Numbers<'a>, unit: &'a Unit) 
 fn order_misses(alloc: Global, units: &[Unit], order: &[u32]) -> Result<bool, NoMemory>
     ensures { IfOk result (λ b. b ≡ misses_after units.now [] order.now) }
 {
-    let mut functions = BTreeMap::new(alloc);
-    let mut variables = BTreeMap::new(alloc);
+    let mut functions = IndexMap::new(alloc);
+    let mut variables = IndexMap::new(alloc);
     let mut rest = order;
     while let [place, more @ ..] = rest {
         if let Some(unit) = unit_at(units, *place) {

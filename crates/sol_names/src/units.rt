@@ -7,7 +7,7 @@ ghost use Rattle.sol_names.specs.Orders.{name_place};
 ghost use Rattle.sol_names.specs.Units.{is_contract, is_interface, is_concrete, unit_name, bases, members, member_name, is_private, implemented, is_public, exposed};
 
 use crate::names::Named;
-use sol_tree::{Base, Fun, FunMark, Identifier, Member, Unit, Var, VarMark};
+use sol_tree::{Base, Fun, FunSpecifier, Identifier, Member, Unit, Var, VarSpecifier};
 
 pub fn is_contract(unit: &Unit) -> bool
     ensures { result ≡ is_contract unit.now }
@@ -107,10 +107,10 @@ pub fn member_name(member: &Member) -> Named<'_>
 pub fn is_private(fun: &Fun) -> bool
     ensures { result ≡ is_private fun.now }
 {
-    fun.marks
-        .as_slice()
-        .iter()
-        .any(|mark| matches!(mark, FunMark::Private { .. }))
+    fun.specifiers.as_slice().iter().any(|specifier| matches!(
+        specifier,
+        FunSpecifier::Private { .. }
+    ))
 }
 
 // The name of a function that has a body and isn't private.
@@ -132,10 +132,10 @@ pub fn implemented(member: &Member) -> Option<&str>
 fn is_public(var: &Var) -> bool
     ensures { result ≡ is_public var.now }
 {
-    var.marks
-        .as_slice()
-        .iter()
-        .any(|mark| matches!(mark, VarMark::Public { .. }))
+    var.specifiers.as_slice().iter().any(|specifier| matches!(
+        specifier,
+        VarSpecifier::Public { .. }
+    ))
 }
 
 // The name of a public variable.

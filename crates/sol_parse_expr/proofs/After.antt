@@ -24,9 +24,9 @@ abbrev pub Front : {A : Type 0} → (A → List Token → ℕ → Type 0) → Li
 Front Q ts a h rest = (us : List Token) × Q a us h × (ts ≡ us ++ rest)
 
 -- spelled by these tokens, and of h levels, which are d at most
-pub record Read {A : Type 0} (levels : A → ℕ) (Spelled : A → List Token → Type 0) (d : ℕ) (a : A) (us : List Token) (h : ℕ) : Type 0 where
+pub record Read {A : Type 0} (height_of : A → ℕ) (Spelled : A → List Token → Type 0) (d : ℕ) (a : A) (us : List Token) (h : ℕ) : Type 0 where
   pub spells : Spelled a us
-  pub height : levels a ≡ h
+  pub height : height_of a ≡ h
   pub low : h ≤ d
 
 -- ---- one step after another
@@ -102,23 +102,23 @@ after-member ts go P k = rw (then-then (mark_at (codes ".") ts) (λ p us. name_a
 -- ---- loops
 
 -- what is read in turns, each of which makes a node of what was read before
-pub grown : {A B : Type 0} (join : A → B → A) (d : ℕ) (step : Measured B) (Spelled : A → List Token → Type 0) (levels : A → ℕ) (Part : B → List Token → ℕ → Type 0) → ((ts : List Token) → Holds (Front Part) ts (step ts)) → ((a : A) (b : B) (us vs : List Token) (h n : ℕ) → Read levels Spelled d a us h → Part b vs n → Read levels Spelled (suc d) (join a b) (us ++ vs) (max h n + 1)) → (k : ℕ) (a : A) (h : ℕ) (us ts : List Token) → Read levels Spelled (suc d) a us h → Holds (Front (Read levels Spelled (suc d))) (us ++ ts) (grow join d step k a h ts)
+pub grown : {A B : Type 0} (join : A → B → A) (d : ℕ) (step : Measured B) (Spelled : A → List Token → Type 0) (height_of : A → ℕ) (Part : B → List Token → ℕ → Type 0) → ((ts : List Token) → Holds (Front Part) ts (step ts)) → ((a : A) (b : B) (us vs : List Token) (h n : ℕ) → Read height_of Spelled d a us h → Part b vs n → Read height_of Spelled (suc d) (join a b) (us ++ vs) (max h n + 1)) → (k : ℕ) (a : A) (h : ℕ) (us ts : List Token) → Read height_of Spelled (suc d) a us h → Holds (Front (Read height_of Spelled (suc d))) (us ++ ts) (grow join d step k a h ts)
 unfolding grow
-grown join d step Spelled levels Part steps joins zero a h us ts r = (us, r, refl)
-grown join d step Spelled levels Part steps joins (suc k) a h us ts r =
-    on-test (nat_lt d h) _ _ (Front (Read levels Spelled (suc d))) (us ++ ts) (λ high. (us, r, refl)) (λ q.
+grown join d step Spelled height_of Part steps joins zero a h us ts r = (us, r, refl)
+grown join d step Spelled height_of Part steps joins (suc k) a h us ts r =
+    on-test (nat_lt d h) _ _ (Front (Read height_of Spelled (suc d))) (us ++ ts) (λ high. (us, r, refl)) (λ q.
     let small : h ≤ d = grind (arith, nat_tests) in
-    if-tree (step ts) _ _ (λ w. Front (Read levels Spelled (suc d)) (us ++ w)) Part ts (steps ts) (λ b n vs rest p.
-    subst (λ (w : List Token). Holds (Front (Read levels Spelled (suc d))) w (grow join d step k (join a b) (max h n + 1) rest)) (append_assoc us vs rest) (grown join d step Spelled levels Part steps joins k (join a b) (max h n + 1) (us ++ vs) rest (joins a b us vs h n (record { spells = r.spells; height = r.height; low = small }) p)))
+    if-tree (step ts) _ _ (λ w. Front (Read height_of Spelled (suc d)) (us ++ w)) Part ts (steps ts) (λ b n vs rest p.
+    subst (λ (w : List Token). Holds (Front (Read height_of Spelled (suc d))) w (grow join d step k (join a b) (max h n + 1) rest)) (append_assoc us vs rest) (grown join d step Spelled height_of Part steps joins k (join a b) (max h n + 1) (us ++ vs) rest (joins a b us vs h n (record { spells = r.spells; height = r.height; low = small }) p)))
     (us, r, refl))
 
 -- the same of one turn at most
-pub grown_once : {A B : Type 0} (join : A → B → A) (d : ℕ) (step : Measured B) (Before After : A → List Token → Type 0) (levels : A → ℕ) (Part : B → List Token → ℕ → Type 0) → ((ts : List Token) → Holds (Front Part) ts (step ts)) → ((a : A) (us : List Token) → Before a us → After a us) → ((a : A) (b : B) (us vs : List Token) (h n : ℕ) → Read levels Before d a us h → Part b vs n → Read levels After (suc d) (join a b) (us ++ vs) (max h n + 1)) → (a : A) (h : ℕ) (us ts : List Token) → Read levels Before (suc d) a us h → Holds (Front (Read levels After (suc d))) (us ++ ts) (grow join d step 1 a h ts)
+pub grown_once : {A B : Type 0} (join : A → B → A) (d : ℕ) (step : Measured B) (Before After : A → List Token → Type 0) (height_of : A → ℕ) (Part : B → List Token → ℕ → Type 0) → ((ts : List Token) → Holds (Front Part) ts (step ts)) → ((a : A) (us : List Token) → Before a us → After a us) → ((a : A) (b : B) (us vs : List Token) (h n : ℕ) → Read height_of Before d a us h → Part b vs n → Read height_of After (suc d) (join a b) (us ++ vs) (max h n + 1)) → (a : A) (h : ℕ) (us ts : List Token) → Read height_of Before (suc d) a us h → Holds (Front (Read height_of After (suc d))) (us ++ ts) (grow join d step 1 a h ts)
 unfolding grow
-grown_once join d step Before After levels Part steps weaken joins a h us ts r =
-    let same : Read levels After (suc d) a us h = record { spells = weaken a us r.spells; height = r.height; low = r.low } in
-    on-test (nat_lt d h) _ _ (Front (Read levels After (suc d))) (us ++ ts) (λ high. (us, same, refl)) (λ q.
+grown_once join d step Before After height_of Part steps weaken joins a h us ts r =
+    let same : Read height_of After (suc d) a us h = record { spells = weaken a us r.spells; height = r.height; low = r.low } in
+    on-test (nat_lt d h) _ _ (Front (Read height_of After (suc d))) (us ++ ts) (λ high. (us, same, refl)) (λ q.
     let small : h ≤ d = grind (arith, nat_tests) in
-    if-tree (step ts) _ _ (λ w. Front (Read levels After (suc d)) (us ++ w)) Part ts (steps ts) (λ b n vs rest p.
+    if-tree (step ts) _ _ (λ w. Front (Read height_of After (suc d)) (us ++ w)) Part ts (steps ts) (λ b n vs rest p.
     (us ++ vs, joins a b us vs h n (record { spells = r.spells; height = r.height; low = small }) p, sym (append_assoc us vs rest)))
     (us, same, refl))

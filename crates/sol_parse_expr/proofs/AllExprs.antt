@@ -8,7 +8,7 @@ use Rattle.sol_tree.specs.declared.expr.ExprTree as tree
 use Rattle.sol_tree.specs.Places.{place_of}
 use Rattle.sol_parse_expr.specs.Grammar.{IsMark, named_by, Spells, SpellsAll, SpellsMore}
 use Rattle.sol_parse_expr.specs.Heights.{height, greatest}
-use Rattle.sol_parse_expr.specs.Reading.{Levels, is_mark, mark_at, postfix_at, prefix_at, argument_at, arguments_at, all_at, ladder, expr_at}
+use Rattle.sol_parse_expr.specs.Reading.{ByPrecedence, is_mark, mark_at, postfix_at, prefix_at, argument_at, arguments_at, all_at, ladder, expr_at}
 use Rattle.sol_parse_expr.proofs.Tokens.{mark-here, mark-not}
 use Rattle.sol_parse_expr.proofs.Heights as heights
 use Rattle.sol_parse_expr.proofs.Loops.{arguments-stop, arguments-turn}
@@ -82,11 +82,11 @@ done-tighter l e us a b s p d low rest q =
 abbrev DoneMore : List tree.ExprTree → List Token → Type 0
 DoneMore es us = (d : ℕ) → greatest (map height es) ≤ d → (c : Token) (rest : List Token) → IsMark (codes ")") c → (k : ℕ) → length us ≤ k → (before : List tree.ExprTree) (h : ℕ) → arguments_at (expr_at d) k before h (us ++ (c ∷ rest)) ≡ Some (before ++ es, max h (greatest (map height es)), c ∷ rest)
 
-no-argument : (inner : Levels) (c : Token) (rest : List Token) → IsMark (codes ")") c → argument_at inner (c ∷ rest) ≡ None
+no-argument : (inner : ByPrecedence) (c : Token) (rest : List Token) → IsMark (codes ")") c → argument_at inner (c ∷ rest) ≡ None
 unfolding argument_at
 no-argument inner c rest m = rw (mark-not (codes ",") (kind.Mark (codes ")")) c rest m refl) refl
 
-an-argument : (inner : Levels) (t : Token) (ts : List Token) (e : tree.ExprTree) (h : ℕ) (rest : List Token) → IsMark (codes ",") t → inner 10 ts ≡ Some (e, h, rest) → argument_at inner (t ∷ ts) ≡ Some (e, h, rest)
+an-argument : (inner : ByPrecedence) (t : Token) (ts : List Token) (e : tree.ExprTree) (h : ℕ) (rest : List Token) → IsMark (codes ",") t → inner 10 ts ≡ Some (e, h, rest) → argument_at inner (t ∷ ts) ≡ Some (e, h, rest)
 unfolding argument_at
 an-argument inner t ts e h rest m q = rw (mark-here (codes ",") t ts m, q) refl
 
@@ -116,7 +116,7 @@ done-another e es t ts us m s pos r p d low c rest n k many before h =
     let others = p d (omega arith) c rest n (k - 1) (omega arith) (before ++ (e ∷ [])) (max h (height e)) in
     simp append_assoc (turn ∙ others ∙ all-joined before e es h (height e) (greatest (map height es)) (c ∷ rest))
 
-no-expression : (l d : ℕ) (inner : Levels) (c : Token) (rest : List Token) → IsMark (codes ")") c → ladder d inner l (c ∷ rest) ≡ None
+no-expression : (l d : ℕ) (inner : ByPrecedence) (c : Token) (rest : List Token) → IsMark (codes ")") c → ladder d inner l (c ∷ rest) ≡ None
 unfolding ladder postfix_at prefix_at
 no-expression zero d inner c rest m = refl
 no-expression (suc zero) d inner c rest m = rw (atoms.no_primary-end d inner c rest m) refl

@@ -13,7 +13,8 @@ use Rattle.sol_parse_expr.specs.Reading.{may_name_at, entry_at, mapping_at, firs
 use Rattle.sol_parse_expr.proofs.Tokens.{mark-here, word-here, elementary-here, name-here, mark-not, elementary-not, name-not}
 use Rattle.sol_parse_expr.proofs.Heights.{height-elementary, height-named_type, height-array, height-mapping}
 use Rattle.sol_parse_expr.proofs.Loops.{grow-stop, grow-array}
-use Rattle.sol_parse_expr.proofs.Binding.{name-no_type, no_name-mapping, no_type-mapping}
+use Rattle.sol_parse_expr.proofs.Binding.{name-no_type}
+use Rattle.sol_parse_expr.proofs.Keywords.{keyword}
 
 -- ---- what stands after a type
 
@@ -83,11 +84,11 @@ done-mapping k v i j w o a c ks is vs js hw ho sk pk si ha sv pv sj hc d low res
     let high : type_height (types.Mapping w.at k i v j) ≡ max (type_height k) (type_height v) + 1 = height-mapping w.at k i v j in
     let t5 : List Token = vs ++ (js ++ (c ∷ rest)) in
     let t2 : List Token = ks ++ (is ++ (a ∷ t5)) in
-    let name : name_of (kind.Word (codes "mapping")) ≡ None = rw no_name-mapping refl in
+    let name : name_of (kind.Word (codes "mapping")) ≡ None = rw ((keyword (codes "mapping") refl).no_name) refl in
     let key = entry-exact d k ks i is sk pk (omega arith) si (codes "=>") a t5 ha refl in
     let value = entry-exact d v vs j js sv pv (omega arith) sj (codes ")") c rest hc refl in
     let first : first_type_at (type_at d) (w ∷ (o ∷ t2)) ≡ Some (types.Mapping w.at k i v j, max (type_height k) (type_height v) + 1, rest) =
-    rw (elementary-not (kind.Word (codes "mapping")) w (o ∷ t2) hw no_type-mapping, name-not (kind.Word (codes "mapping")) w (o ∷ t2) hw name, word-here (codes "mapping") w (o ∷ t2) hw, mark-here (codes "(") o t2 ho, key, mark-here (codes "=>") a t5 ha, value, mark-here (codes ")") c rest hc) refl in
+    rw (elementary-not (kind.Word (codes "mapping")) w (o ∷ t2) hw (keyword (codes "mapping") refl).no_type, name-not (kind.Word (codes "mapping")) w (o ∷ t2) hw name, word-here (codes "mapping") w (o ∷ t2) hw, mark-here (codes "(") o t2 ho, key, mark-here (codes "=>") a t5 ha, value, mark-here (codes ")") c rest hc) refl in
     simp append_assoc (begins d (w ∷ (o ∷ t2)) (types.Mapping w.at k i v j) (max (type_height k) (type_height v) + 1) rest first high)
 
 done-type : {t : types.Type} {us : List Token} → SpellsType t us → TypeDone t us

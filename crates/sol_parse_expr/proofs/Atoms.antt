@@ -11,9 +11,10 @@ use Rattle.sol_tree.specs.declared.expr.ExprTree as tree
 use Rattle.sol_tree.specs.Words.{is_name}
 use Rattle.sol_parse_expr.specs.Grammar.{IsMark, IsWord, IsName, IsElementary, named_by, MayUnit, SpellsType}
 use Rattle.sol_parse_expr.specs.Heights.{type_height}
-use Rattle.sol_parse_expr.specs.Reading.{Levels, name_of, may_unit_at, unit_at, member_at, scaled_at, member_of_word_at, word_tree_at, atom_at, closed_at, parenthesised_at, conversion_at, type_member_at, type_at, primary_at}
+use Rattle.sol_parse_expr.specs.Reading.{ByPrecedence, name_of, may_unit_at, unit_at, member_at, scaled_at, member_of_word_at, word_tree_at, atom_at, closed_at, parenthesised_at, conversion_at, type_member_at, type_at, primary_at}
 use Rattle.sol_parse_expr.proofs.Tokens.{mark-here, word-here, elementary-here, unit-here, name-here, number-here, mark-not, word-not, elementary-not, name-not, number-not}
-use Rattle.sol_parse_expr.proofs.Binding.{name-differs, type-differs, type-no_name, no_name-true, no_name-false, no_name-message, no_name-super, no_name-type, no_type-true, no_type-false, no_type-message, no_type-super, no_type-type}
+use Rattle.sol_parse_expr.proofs.Binding.{name-differs, type-differs, type-no_name}
+use Rattle.sol_parse_expr.proofs.Keywords.{keyword}
 use Rattle.sol_parse_expr.proofs.AllTypes.{type-all, no-brackets}
 
 -- `. ID`
@@ -42,7 +43,7 @@ atom-false t h rest = rw (number-not (kind.Word (codes "false")) t rest h refl, 
 
 pub atom-named : (n : List ℕ) (t : Token) → IsName n t → (rest : List Token) → atom_at (t ∷ rest) ≡ Some (tree.Named t.at n, 1, rest)
 unfolding atom_at scaled_at word_tree_at
-atom-named n t s rest = rw (number-not (kind.Word n) t rest s.word refl, word-not (codes "true") (kind.Word n) t rest s.word (name-differs n (codes "true") s.free no_name-true), word-not (codes "false") (kind.Word n) t rest s.word (name-differs n (codes "false") s.free no_name-false), name-here n t rest s) refl
+atom-named n t s rest = rw (number-not (kind.Word n) t rest s.word refl, word-not (codes "true") (kind.Word n) t rest s.word (name-differs n (codes "true") s.free (keyword (codes "true") refl).no_name), word-not (codes "false") (kind.Word n) t rest s.word (name-differs n (codes "false") s.free (keyword (codes "false") refl).no_name), name-here n t rest s) refl
 
 no-name : (w : List ℕ) → is_name w ≡ false → name_of (kind.Word w) ≡ None
 no-name w h = rw h refl
@@ -54,11 +55,11 @@ word-no_tree w t ts h n x y = rw (word-not (codes "true") (kind.Word w) t ts h x
 
 pub atom-message : (n : List ℕ) (w d m : Token) → IsWord (codes "msg") w → IsMark (codes ".") d → IsName n m → (rest : List Token) → atom_at (w ∷ (d ∷ (m ∷ rest))) ≡ Some (tree.MessageMember w.at (named_by n m), 1, rest)
 unfolding atom_at scaled_at member_of_word_at
-atom-message n w d m h i s rest = rw (number-not (kind.Word (codes "msg")) w (d ∷ (m ∷ rest)) h refl, word-no_tree (codes "msg") w (d ∷ (m ∷ rest)) h no_name-message refl refl, word-here (codes "msg") w (d ∷ (m ∷ rest)) h, member-stands n d m rest i s) refl
+atom-message n w d m h i s rest = rw (number-not (kind.Word (codes "msg")) w (d ∷ (m ∷ rest)) h refl, word-no_tree (codes "msg") w (d ∷ (m ∷ rest)) h (keyword (codes "msg") refl).no_name refl refl, word-here (codes "msg") w (d ∷ (m ∷ rest)) h, member-stands n d m rest i s) refl
 
 pub atom-super : (n : List ℕ) (w d m : Token) → IsWord (codes "super") w → IsMark (codes ".") d → IsName n m → (rest : List Token) → atom_at (w ∷ (d ∷ (m ∷ rest))) ≡ Some (tree.SuperMember w.at (named_by n m), 1, rest)
 unfolding atom_at scaled_at member_of_word_at
-atom-super n w d m h i s rest = rw (number-not (kind.Word (codes "super")) w (d ∷ (m ∷ rest)) h refl, word-no_tree (codes "super") w (d ∷ (m ∷ rest)) h no_name-super refl refl, word-not (codes "msg") (kind.Word (codes "super")) w (d ∷ (m ∷ rest)) h refl, word-here (codes "super") w (d ∷ (m ∷ rest)) h, member-stands n d m rest i s) refl
+atom-super n w d m h i s rest = rw (number-not (kind.Word (codes "super")) w (d ∷ (m ∷ rest)) h refl, word-no_tree (codes "super") w (d ∷ (m ∷ rest)) h (keyword (codes "super") refl).no_name refl refl, word-not (codes "msg") (kind.Word (codes "super")) w (d ∷ (m ∷ rest)) h refl, word-here (codes "super") w (d ∷ (m ∷ rest)) h, member-stands n d m rest i s) refl
 
 -- ---- what begins with no such thing
 
@@ -71,26 +72,26 @@ unfolding atom_at scaled_at member_of_word_at
 no_atom-word w t ts h n x y z u = rw (number-not (kind.Word w) t ts h refl, word-no_tree w t ts h n x y, word-not (codes "msg") (kind.Word w) t ts h z, word-not (codes "super") (kind.Word w) t ts h u) refl
 
 pub no_atom-elementary : (ty : Ty) (t : Token) (ts : List Token) → IsElementary ty t → atom_at (t ∷ ts) ≡ None
-no_atom-elementary ty t ts s = no_atom-word s.text t ts s.word (type-no_name s.text ty s.named) (type-differs s.text (codes "true") ty s.named no_type-true) (type-differs s.text (codes "false") ty s.named no_type-false) (type-differs s.text (codes "msg") ty s.named no_type-message) (type-differs s.text (codes "super") ty s.named no_type-super)
+no_atom-elementary ty t ts s = no_atom-word s.text t ts s.word (type-no_name s.text ty s.named) (type-differs s.text (codes "true") ty s.named (keyword (codes "true") refl).no_type) (type-differs s.text (codes "false") ty s.named (keyword (codes "false") refl).no_type) (type-differs s.text (codes "msg") ty s.named (keyword (codes "msg") refl).no_type) (type-differs s.text (codes "super") ty s.named (keyword (codes "super") refl).no_type)
 
 pub no_atom-type : (t : Token) (ts : List Token) → IsWord (codes "type") t → atom_at (t ∷ ts) ≡ None
-no_atom-type t ts h = no_atom-word (codes "type") t ts h no_name-type refl refl refl refl
+no_atom-type t ts h = no_atom-word (codes "type") t ts h (keyword (codes "type") refl).no_name refl refl refl refl
 
 -- ---- all that begins an expression
 
-pub primary-atom : (d : ℕ) (inner : Levels) (ts : List Token) (e : tree.ExprTree) (h : ℕ) (rest : List Token) → atom_at ts ≡ Some (e, h, rest) → primary_at d inner ts ≡ Some (e, h, rest)
+pub primary-atom : (d : ℕ) (inner : ByPrecedence) (ts : List Token) (e : tree.ExprTree) (h : ℕ) (rest : List Token) → atom_at ts ≡ Some (e, h, rest) → primary_at d inner ts ≡ Some (e, h, rest)
 unfolding primary_at
 primary-atom d inner ts e h rest q = rw q refl
 
-pub closed-stands : (m : List ℕ) (inner : Levels) (e : tree.ExprTree) (h : ℕ) (ts : List Token) (c : Token) (rest : List Token) → inner 10 ts ≡ Some (e, h, c ∷ rest) → IsMark m c → closed_at m inner ts ≡ Some (e, h, rest)
+pub closed-stands : (m : List ℕ) (inner : ByPrecedence) (e : tree.ExprTree) (h : ℕ) (ts : List Token) (c : Token) (rest : List Token) → inner 10 ts ≡ Some (e, h, c ∷ rest) → IsMark m c → closed_at m inner ts ≡ Some (e, h, rest)
 unfolding closed_at
 closed-stands m inner e h ts c rest q s = rw (q, mark-here m c rest s) refl
 
-pub primary-parenthesised : (d : ℕ) (inner : Levels) (o : Token) (ts : List Token) (e : tree.ExprTree) (h : ℕ) (rest : List Token) → IsMark (codes "(") o → closed_at (codes ")") inner ts ≡ Some (e, h, rest) → primary_at d inner (o ∷ ts) ≡ Some (tree.Parenthesised o.at e, h + 1, rest)
+pub primary-parenthesised : (d : ℕ) (inner : ByPrecedence) (o : Token) (ts : List Token) (e : tree.ExprTree) (h : ℕ) (rest : List Token) → IsMark (codes "(") o → closed_at (codes ")") inner ts ≡ Some (e, h, rest) → primary_at d inner (o ∷ ts) ≡ Some (tree.Parenthesised o.at e, h + 1, rest)
 unfolding primary_at parenthesised_at
 primary-parenthesised d inner o ts e h rest s q = rw (no_atom-mark (codes "(") o ts s, mark-here (codes "(") o ts s, q) refl
 
-pub primary-conversion : (d : ℕ) (inner : Levels) (ty : Ty) (t o : Token) (ts : List Token) (e : tree.ExprTree) (h : ℕ) (rest : List Token) → IsElementary ty t → IsMark (codes "(") o → closed_at (codes ")") inner ts ≡ Some (e, h, rest) → primary_at d inner (t ∷ (o ∷ ts)) ≡ Some (tree.Conversion t.at ty o.at e, h + 1, rest)
+pub primary-conversion : (d : ℕ) (inner : ByPrecedence) (ty : Ty) (t o : Token) (ts : List Token) (e : tree.ExprTree) (h : ℕ) (rest : List Token) → IsElementary ty t → IsMark (codes "(") o → closed_at (codes ")") inner ts ≡ Some (e, h, rest) → primary_at d inner (t ∷ (o ∷ ts)) ≡ Some (tree.Conversion t.at ty o.at e, h + 1, rest)
 unfolding primary_at parenthesised_at conversion_at
 primary-conversion d inner ty t o ts e h rest s m q = rw (no_atom-elementary ty t (o ∷ ts) s, mark-not (codes "(") (kind.Word s.text) t (o ∷ ts) s.word refl, elementary-here ty t (o ∷ ts) s, mark-here (codes "(") o ts m, q) refl
 
@@ -101,13 +102,13 @@ type-stands d ty n w o c p m ts hw ho s low hc hp hm rest =
     let read : type_at d (ts ++ after) ≡ Some (ty, type_height ty, after) = type-all s d low after (no-brackets (codes ")") c (p ∷ (m ∷ rest)) hc refl) in
     rw (word-here (codes "type") w (o ∷ (ts ++ after)) hw, mark-here (codes "(") o (ts ++ after) ho, read, mark-here (codes ")") c (p ∷ (m ∷ rest)) hc, member-stands n p m rest hp hm) refl
 
-pub primary-type : (d : ℕ) (inner : Levels) (ty : types.Type) (n : List ℕ) (w o c p m : Token) (ts : List Token) → IsWord (codes "type") w → IsMark (codes "(") o → SpellsType ty ts → type_height ty ≤ d → IsMark (codes ")") c → IsMark (codes ".") p → IsName n m → (rest : List Token) → primary_at d inner (w ∷ (o ∷ (ts ++ (c ∷ (p ∷ (m ∷ rest)))))) ≡ Some (tree.TypeMember w.at ty (named_by n m), type_height ty + 1, rest)
+pub primary-type : (d : ℕ) (inner : ByPrecedence) (ty : types.Type) (n : List ℕ) (w o c p m : Token) (ts : List Token) → IsWord (codes "type") w → IsMark (codes "(") o → SpellsType ty ts → type_height ty ≤ d → IsMark (codes ")") c → IsMark (codes ".") p → IsName n m → (rest : List Token) → primary_at d inner (w ∷ (o ∷ (ts ++ (c ∷ (p ∷ (m ∷ rest)))))) ≡ Some (tree.TypeMember w.at ty (named_by n m), type_height ty + 1, rest)
 unfolding primary_at parenthesised_at conversion_at
 primary-type d inner ty n w o c p m ts hw ho s low hc hp hm rest =
     let all : List Token = o ∷ (ts ++ (c ∷ (p ∷ (m ∷ rest)))) in
-    rw (no_atom-type w all hw, mark-not (codes "(") (kind.Word (codes "type")) w all hw refl, elementary-not (kind.Word (codes "type")) w all hw no_type-type, type-stands d ty n w o c p m ts hw ho s low hc hp hm rest) refl
+    rw (no_atom-type w all hw, mark-not (codes "(") (kind.Word (codes "type")) w all hw refl, elementary-not (kind.Word (codes "type")) w all hw (keyword (codes "type") refl).no_type, type-stands d ty n w o c p m ts hw ho s low hc hp hm rest) refl
 
 -- a closing mark begins nothing
-pub no_primary-end : (d : ℕ) (inner : Levels) (c : Token) (ts : List Token) → IsMark (codes ")") c → primary_at d inner (c ∷ ts) ≡ None
+pub no_primary-end : (d : ℕ) (inner : ByPrecedence) (c : Token) (ts : List Token) → IsMark (codes ")") c → primary_at d inner (c ∷ ts) ≡ None
 unfolding primary_at parenthesised_at conversion_at type_member_at
 no_primary-end d inner c ts h = rw (no_atom-mark (codes ")") c ts h, mark-not (codes "(") (kind.Mark (codes ")")) c ts h refl, elementary-not (kind.Mark (codes ")")) c ts h refl, word-not (codes "type") (kind.Mark (codes ")")) c ts h refl) refl

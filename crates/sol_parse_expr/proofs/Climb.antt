@@ -1,41 +1,41 @@
--- How reading goes on from a tree that stands, level by level.
+-- How reading goes on from a tree that stands, precedence by precedence.
 use Rattle.std.proofs.Common.{◌≡◌, ◌∙◌, sym, subst, refl, ℕ, zero, suc, ◌+◌, ◌-◌, ◌<◌, ◌≤◌, List, length, Bool, true, false, cond, ◌&&◌, ◌||◌, nat_eq, nat_lt, Some, None, inl, inr, codes, arith}
 use Rattle.std.specs.Prelude.{if◌then◌else◌}
 use Rattle.std.proofs.lemmas.Bool.Decides.{nat_tests}
 use Rattle.sol_tree.specs.declared.token.Token.{Token}
 use Rattle.sol_tree.specs.declared.expr.ExprTree as tree
 use Rattle.sol_parse_expr.specs.Heights.{height}
-use Rattle.sol_parse_expr.specs.Reading.{Measured, Levels, mark_at, then_tree, grow, index_at, member_at, member_suffix_at, call_at, suffix_at, suffixed, postfix_at, prefix_at, operand_at, joined, branches_at, chosen, more_at, ladder, expr_at}
+use Rattle.sol_parse_expr.specs.Reading.{Measured, ByPrecedence, mark_at, then_tree, grow, index_at, member_at, member_suffix_at, call_at, suffix_at, suffixed, postfix_at, prefix_at, operand_at, joined, branches_at, chosen, more_at, ladder, expr_at}
 use Rattle.sol_parse_expr.proofs.Tokens.{either}
 use Rattle.sol_parse_expr.proofs.Loops.{grow-stop}
 use Rattle.sol_parse_expr.proofs.Binding.{binds_at, binds-index, binds-member, binds-call, binds-question, quiet-mark, quiet-operator}
 
--- ---- the levels, one by one
+-- ---- the precedence, one by one
 
-pub ladder-one : (d : ℕ) (inner : Levels) (ts : List Token) → ladder d inner 1 ts ≡ postfix_at d inner ts
+pub ladder-one : (d : ℕ) (inner : ByPrecedence) (ts : List Token) → ladder d inner 1 ts ≡ postfix_at d inner ts
 unfolding ladder
 ladder-one d inner ts = refl
 
-pub ladder-two : (d : ℕ) (inner : Levels) (ts : List Token) → ladder d inner 2 ts ≡ prefix_at inner (postfix_at d inner) ts
+pub ladder-two : (d : ℕ) (inner : ByPrecedence) (ts : List Token) → ladder d inner 2 ts ≡ prefix_at inner (postfix_at d inner) ts
 unfolding ladder
 ladder-two d inner ts = refl
 
-pub ladder-loose : (d : ℕ) (inner : Levels) (l : ℕ) (ts : List Token) → 2 ≤ l → ladder d inner (suc l) ts ≡ then_tree (ladder d inner l ts) (λ e h rest. more_at (suc l) d inner e h rest)
+pub ladder-loose : (d : ℕ) (inner : ByPrecedence) (l : ℕ) (ts : List Token) → 2 ≤ l → ladder d inner (suc l) ts ≡ then_tree (ladder d inner l ts) (λ e h rest. more_at (suc l) d inner e h rest)
 unfolding ladder
 ladder-loose d inner l ts q =
     let one : nat_eq (suc l) 1 ≡ false = grind (arith, nat_tests) in
     let two : nat_eq (suc l) 2 ≡ false = grind (arith, nat_tests) in
     rw (one, two) refl
 
-pub more-three : (d : ℕ) (inner : Levels) (e : tree.ExprTree) (h : ℕ) (ts : List Token) → more_at 3 d inner e h ts ≡ grow joined d (operand_at 3 3 inner) 1 e h ts
+pub more-three : (d : ℕ) (inner : ByPrecedence) (e : tree.ExprTree) (h : ℕ) (ts : List Token) → more_at 3 d inner e h ts ≡ grow joined d (operand_at 3 3 inner) 1 e h ts
 unfolding more_at
 more-three d inner e h ts = refl
 
-pub more-ten : (d : ℕ) (inner : Levels) (e : tree.ExprTree) (h : ℕ) (ts : List Token) → more_at 10 d inner e h ts ≡ grow chosen d (branches_at inner) 1 e h ts
+pub more-ten : (d : ℕ) (inner : ByPrecedence) (e : tree.ExprTree) (h : ℕ) (ts : List Token) → more_at 10 d inner e h ts ≡ grow chosen d (branches_at inner) 1 e h ts
 unfolding more_at
 more-ten d inner e h ts = refl
 
-pub more-left : (l d : ℕ) (inner : Levels) (e : tree.ExprTree) (h : ℕ) (ts : List Token) → 3 ≤ l → l < 9 → more_at (suc l) d inner e h ts ≡ grow joined d (operand_at (suc l) l inner) (length ts) e h ts
+pub more-left : (l d : ℕ) (inner : ByPrecedence) (e : tree.ExprTree) (h : ℕ) (ts : List Token) → 3 ≤ l → l < 9 → more_at (suc l) d inner e h ts ≡ grow joined d (operand_at (suc l) l inner) (length ts) e h ts
 unfolding more_at
 more-left l d inner e h ts p q =
     let three : nat_eq (suc l) 3 ≡ false = grind (arith, nat_tests) in
@@ -43,72 +43,72 @@ more-left l d inner e h ts p q =
     let below : suc l - 1 ≡ l = omega arith in
     rw (three, ten, below) refl
 
--- ---- a tree of level l stands, and these tokens are left: the loop of that level, where it groups to the left
+-- ---- a tree of precedence l stands, and these tokens are left: the loop of that precedence, where it groups to the left
 
 abbrev pub is_left : ℕ → Bool
 is_left l = nat_lt 3 l && nat_lt l 10
 
-unfoldable pub goes : ℕ → ℕ → Levels → ℕ → tree.ExprTree → ℕ → Measured tree.ExprTree
+unfoldable pub goes : ℕ → ℕ → ByPrecedence → ℕ → tree.ExprTree → ℕ → Measured tree.ExprTree
 goes l d inner k e h ts =
     if nat_eq l 1 then grow suffixed d (suffix_at inner) k e h ts else (
     if is_left l then grow joined d (operand_at l (l - 1) inner) k e h ts else
     Some (e, h, ts))
 
-pub goes-one : (d : ℕ) (inner : Levels) (k : ℕ) (e : tree.ExprTree) (h : ℕ) (ts : List Token) → goes 1 d inner k e h ts ≡ grow suffixed d (suffix_at inner) k e h ts
+pub goes-one : (d : ℕ) (inner : ByPrecedence) (k : ℕ) (e : tree.ExprTree) (h : ℕ) (ts : List Token) → goes 1 d inner k e h ts ≡ grow suffixed d (suffix_at inner) k e h ts
 unfolding goes
 goes-one d inner k e h ts = refl
 
 left : (l : ℕ) → 3 ≤ l → l < 9 → is_left (suc l) ≡ true
 left l p q = grind (arith, nat_tests)
 
-pub goes-left : (l d : ℕ) (inner : Levels) (k : ℕ) (e : tree.ExprTree) (h : ℕ) (ts : List Token) → 3 ≤ l → l < 9 → goes (suc l) d inner k e h ts ≡ grow joined d (operand_at (suc l) l inner) k e h ts
+pub goes-left : (l d : ℕ) (inner : ByPrecedence) (k : ℕ) (e : tree.ExprTree) (h : ℕ) (ts : List Token) → 3 ≤ l → l < 9 → goes (suc l) d inner k e h ts ≡ grow joined d (operand_at (suc l) l inner) k e h ts
 unfolding goes
 goes-left l d inner k e h ts p q =
     let one : nat_eq (suc l) 1 ≡ false = grind (arith, nat_tests) in
     let below : suc l - 1 ≡ l = omega arith in
     rw (one, left l p q, below) refl
 
-pub goes-two : (d : ℕ) (inner : Levels) (k : ℕ) (e : tree.ExprTree) (h : ℕ) (ts : List Token) → goes 2 d inner k e h ts ≡ Some (e, h, ts)
+pub goes-two : (d : ℕ) (inner : ByPrecedence) (k : ℕ) (e : tree.ExprTree) (h : ℕ) (ts : List Token) → goes 2 d inner k e h ts ≡ Some (e, h, ts)
 unfolding goes
 goes-two d inner k e h ts = refl
 
-pub goes-three : (d : ℕ) (inner : Levels) (k : ℕ) (e : tree.ExprTree) (h : ℕ) (ts : List Token) → goes 3 d inner k e h ts ≡ Some (e, h, ts)
+pub goes-three : (d : ℕ) (inner : ByPrecedence) (k : ℕ) (e : tree.ExprTree) (h : ℕ) (ts : List Token) → goes 3 d inner k e h ts ≡ Some (e, h, ts)
 unfolding goes
 goes-three d inner k e h ts = refl
 
-pub goes-ten : (d : ℕ) (inner : Levels) (k : ℕ) (e : tree.ExprTree) (h : ℕ) (ts : List Token) → goes 10 d inner k e h ts ≡ Some (e, h, ts)
+pub goes-ten : (d : ℕ) (inner : ByPrecedence) (k : ℕ) (e : tree.ExprTree) (h : ℕ) (ts : List Token) → goes 10 d inner k e h ts ≡ Some (e, h, ts)
 unfolding goes
 goes-ten d inner k e h ts = refl
 
 -- ---- where the next token binds more loosely, nothing goes on
 
-quiet-suffix : (inner : Levels) (ts : List Token) → 1 < binds_at ts → suffix_at inner ts ≡ None
+quiet-suffix : (inner : ByPrecedence) (ts : List Token) → 1 < binds_at ts → suffix_at inner ts ≡ None
 unfolding suffix_at index_at member_suffix_at member_at call_at
 quiet-suffix inner ts q = rw (quiet-mark (codes "[") 1 ts binds-index q, quiet-mark (codes ".") 1 ts binds-member q, quiet-mark (codes "(") 1 ts binds-call q) refl
 
-quiet-operand : (l r : ℕ) (inner : Levels) (ts : List Token) → l < binds_at ts → operand_at l r inner ts ≡ None
+quiet-operand : (l r : ℕ) (inner : ByPrecedence) (ts : List Token) → l < binds_at ts → operand_at l r inner ts ≡ None
 unfolding operand_at
 quiet-operand l r inner ts q = rw (quiet-operator l ts q) refl
 
-quiet-branches : (inner : Levels) (ts : List Token) → 10 < binds_at ts → branches_at inner ts ≡ None
+quiet-branches : (inner : ByPrecedence) (ts : List Token) → 10 < binds_at ts → branches_at inner ts ≡ None
 unfolding branches_at
 quiet-branches inner ts q = rw (quiet-mark (codes "?") 10 ts binds-question q) refl
 
-quiet-left : (b : Bool) (l d : ℕ) (inner : Levels) (k : ℕ) (e : tree.ExprTree) (h : ℕ) (ts : List Token) → l < binds_at ts → cond b (grow joined d (operand_at l (l - 1) inner) k e h ts) (Some (e, h, ts)) ≡ Some (e, h, ts)
+quiet-left : (b : Bool) (l d : ℕ) (inner : ByPrecedence) (k : ℕ) (e : tree.ExprTree) (h : ℕ) (ts : List Token) → l < binds_at ts → cond b (grow joined d (operand_at l (l - 1) inner) k e h ts) (Some (e, h, ts)) ≡ Some (e, h, ts)
 quiet-left true l d inner k e h ts q = grow-stop joined d (operand_at l (l - 1) inner) k e h ts (quiet-operand l (l - 1) inner ts q)
 quiet-left false l d inner k e h ts q = refl
 
-quiet-test : (b : Bool) (l d : ℕ) (inner : Levels) (k : ℕ) (e : tree.ExprTree) (h : ℕ) (ts : List Token) → nat_eq l 1 ≡ b → l < binds_at ts → goes l d inner k e h ts ≡ Some (e, h, ts)
+quiet-test : (b : Bool) (l d : ℕ) (inner : ByPrecedence) (k : ℕ) (e : tree.ExprTree) (h : ℕ) (ts : List Token) → nat_eq l 1 ≡ b → l < binds_at ts → goes l d inner k e h ts ≡ Some (e, h, ts)
 unfolding goes
 quiet-test true l d inner k e h ts t q =
     let one : l ≡ 1 = grind (arith, nat_tests) in
     rw t (grow-stop suffixed d (suffix_at inner) k e h ts (quiet-suffix inner ts (omega arith)))
 quiet-test false l d inner k e h ts t q = rw t (quiet-left (is_left l) l d inner k e h ts q)
 
-pub goes-quiet : (l d : ℕ) (inner : Levels) (k : ℕ) (e : tree.ExprTree) (h : ℕ) (ts : List Token) → l < binds_at ts → goes l d inner k e h ts ≡ Some (e, h, ts)
+pub goes-quiet : (l d : ℕ) (inner : ByPrecedence) (k : ℕ) (e : tree.ExprTree) (h : ℕ) (ts : List Token) → l < binds_at ts → goes l d inner k e h ts ≡ Some (e, h, ts)
 goes-quiet l d inner k e h ts q = quiet-test (nat_eq l 1) l d inner k e h ts refl q
 
--- ---- what has to stand after a tree of level l
+-- ---- what has to stand after a tree of precedence l
 
 unfoldable pub need : ℕ → ℕ
 need l = if nat_eq l 1 || is_left l then l - 1 else l
@@ -148,9 +148,9 @@ need-left l p q =
     let below : suc l - 1 ≡ l = omega arith in
     rw (one, left l p q) below
 
--- ---- reading at level l, and one level up
+-- ---- reading at precedence l, and one precedence up
 
--- reading at level l is what goes on from the tree, with at least as many turns as tokens are left
+-- reading at precedence l is what goes on from the tree, with at least as many turns as tokens are left
 abbrev pub Goes : ℕ → tree.ExprTree → ℕ → List Token → List Token → Type 0
 Goes l e d ts rest = (k : ℕ) × (length rest ≤ k) × (ladder d (expr_at d) l ts ≡ goes l d (expr_at d) k e (height e) rest)
 

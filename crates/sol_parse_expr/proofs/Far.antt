@@ -13,7 +13,7 @@ use Rattle.sol_parse_expr.specs.declared.nodes.Operand.{Operand}
 use Rattle.sol_parse_expr.specs.declared.nodes.Branches.{Branches}
 use Rattle.sol_parse_expr.specs.Grammar.{IsMark, IsOperator, MayUnit, Spells}
 use Rattle.sol_parse_expr.specs.Heights.{height}
-use Rattle.sol_parse_expr.specs.Reading.{Measured, Levels, if_tree, then_tree, grow, may_unit_at, scaled_at, atom_at, postfix_at, prefix_at, suffix_at, suffixed, operand_at, joined, branches_at, chosen, more_at, ladder, expr_at}
+use Rattle.sol_parse_expr.specs.Reading.{Measured, ByPrecedence, if_tree, then_tree, grow, may_unit_at, scaled_at, atom_at, postfix_at, prefix_at, suffix_at, suffixed, operand_at, joined, branches_at, chosen, more_at, ladder, expr_at}
 use Rattle.sol_parse_expr.proofs.Tokens.{number-here, unit-here, unit-or}
 use Rattle.sol_parse_expr.proofs.Heights as heights
 use Rattle.sol_parse_expr.proofs.Loops.{grow-turn}
@@ -132,7 +132,7 @@ far-number z x u t us h m d low rest =
     let loop : postfix_at d (expr_at d) (t ∷ (us ++ rest)) ≡ grow suffixed d (suffix_at (expr_at d)) (length v.1) e 1 v.1 = rw first refl in
     leaves-fewer (length v.1) (length rest) (ladder d (expr_at d) 1 (t ∷ (us ++ rest))) v.3 (leaves-same (length v.1) (ladder d (expr_at d) 1 (t ∷ (us ++ rest))) (grow suffixed d (suffix_at (expr_at d)) (length v.1) e 1 v.1) (ladder-one d (expr_at d) (t ∷ (us ++ rest)) ∙ loop) (grow-leaves suffixed d (suffix_at (expr_at d)) (suffix-takes d) (length v.1) e 1 v.1))
 
-two-below : (d : ℕ) (inner : Levels) (ts : List Token) → NoSign ts → ladder d inner 2 ts ≡ ladder d inner 1 ts
+two-below : (d : ℕ) (inner : ByPrecedence) (ts : List Token) → NoSign ts → ladder d inner 2 ts ≡ ladder d inner 1 ts
 unfolding prefix_at
 two-below d inner ts h = ladder-two d inner ts ∙ rw (h.0, h.1) (sym (ladder-one d inner ts))
 

@@ -10,7 +10,7 @@ use Rattle.sol_parse_expr.specs.declared.nodes.Suffix.{Suffix}
 use Rattle.sol_parse_expr.specs.declared.nodes.Suffix.TheVariants as suffix
 use Rattle.sol_parse_expr.specs.Grammar.{IsMark, IsWord, IsName, IsElementary, named_by, SpellsType}
 use Rattle.sol_parse_expr.specs.Heights.{type_height, height, greatest}
-use Rattle.sol_parse_expr.specs.Reading.{Levels, grow, atom_at, closed_at, all_at, index_at, member_at, member_suffix_at, call_at, suffix_at, suffixed, postfix_at, primary_at, expr_at}
+use Rattle.sol_parse_expr.specs.Reading.{ByPrecedence, grow, atom_at, closed_at, all_at, index_at, member_at, member_suffix_at, call_at, suffix_at, suffixed, postfix_at, primary_at, expr_at}
 use Rattle.sol_parse_expr.proofs.Tokens.{mark-here, mark-not}
 use Rattle.sol_parse_expr.proofs.Heights.{height-true, height-false, height-named, height-of_type, height-of_message, height-of_super, height-index, height-member, height-call, height-parenthesised, height-conversion}
 use Rattle.sol_parse_expr.proofs.Loops.{grow-turn}
@@ -93,7 +93,7 @@ suffix-turn a d ts us p n rest g low shorter step high =
     let same = ap (λ (h : ℕ). grow suffixed d (suffix_at (expr_at d)) (g.0 - 1) (suffixed a p) h rest) (sym high) in
     (g.0 - 1, omega arith, g.2 ∙ goes-one d (expr_at d) g.0 a (height a) us ∙ turn ∙ same ∙ sym (goes-one d (expr_at d) (g.0 - 1) (suffixed a p) (height (suffixed a p)) rest))
 
-index-stands : (inner : Levels) (o : Token) (ts : List Token) (i : tree.ExprTree) (h : ℕ) (rest : List Token) → IsMark (codes "[") o → closed_at (codes "]") inner ts ≡ Some (i, h, rest) → suffix_at inner (o ∷ ts) ≡ Some (suffix.Index o.at i, h, rest)
+index-stands : (inner : ByPrecedence) (o : Token) (ts : List Token) (i : tree.ExprTree) (h : ℕ) (rest : List Token) → IsMark (codes "[") o → closed_at (codes "]") inner ts ≡ Some (i, h, rest) → suffix_at inner (o ∷ ts) ≡ Some (suffix.Index o.at i, h, rest)
 unfolding suffix_at index_at
 index-stands inner o ts i h rest m q = rw (mark-here (codes "[") o ts m, q) refl
 
@@ -108,7 +108,7 @@ free-index a i ts us o c s t pos m n d low rest =
     let shorter : length rest < length (o ∷ (us ++ (c ∷ rest))) = simp length-append (omega arith) in
     simp append_assoc (suffix-turn a d (ts ++ (o ∷ (us ++ (c ∷ rest)))) (o ∷ (us ++ (c ∷ rest))) (suffix.Index o.at i) (height i) rest base (omega arith) shorter step high)
 
-member_suffix-stands : (inner : Levels) (n : List ℕ) (p m : Token) (rest : List Token) → IsMark (codes ".") p → IsName n m → suffix_at inner (p ∷ (m ∷ rest)) ≡ Some (suffix.Member (named_by n m), 0, rest)
+member_suffix-stands : (inner : ByPrecedence) (n : List ℕ) (p m : Token) (rest : List Token) → IsMark (codes ".") p → IsName n m → suffix_at inner (p ∷ (m ∷ rest)) ≡ Some (suffix.Member (named_by n m), 0, rest)
 unfolding suffix_at index_at member_suffix_at
 member_suffix-stands inner n p m rest h s = rw (mark-not (codes "[") (kind.Mark (codes ".")) p (m ∷ rest) h refl, member-stands n p m rest h s) refl
 
@@ -124,7 +124,7 @@ free-member a n ts p m s h g d low rest =
 abbrev pub DoneAll : List tree.ExprTree → List Token → Type 0
 DoneAll es us = (d : ℕ) → greatest (map height es) ≤ d → (c : Token) (rest : List Token) → IsMark (codes ")") c → all_at (expr_at d) (us ++ (c ∷ rest)) ≡ Some (es, greatest (map height es), c ∷ rest)
 
-call-stands : (inner : Levels) (o c : Token) (ts : List Token) (es : List tree.ExprTree) (h : ℕ) (rest : List Token) → IsMark (codes "(") o → all_at inner ts ≡ Some (es, h, c ∷ rest) → IsMark (codes ")") c → suffix_at inner (o ∷ ts) ≡ Some (suffix.Call o.at es, h, rest)
+call-stands : (inner : ByPrecedence) (o c : Token) (ts : List Token) (es : List tree.ExprTree) (h : ℕ) (rest : List Token) → IsMark (codes "(") o → all_at inner ts ≡ Some (es, h, c ∷ rest) → IsMark (codes ")") c → suffix_at inner (o ∷ ts) ≡ Some (suffix.Call o.at es, h, rest)
 unfolding suffix_at index_at member_suffix_at member_at call_at
 call-stands inner o c ts es h rest m q n = rw (mark-not (codes "[") (kind.Mark (codes "(")) o ts m refl, mark-not (codes ".") (kind.Mark (codes "(")) o ts m refl, mark-here (codes "(") o ts m, q, mark-here (codes ")") c rest n) refl
 

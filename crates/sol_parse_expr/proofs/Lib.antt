@@ -6,9 +6,10 @@ pub mod Binding
 pub mod Climb
 pub mod Far
 pub mod Finding
+pub mod First
 pub mod Grown
-pub mod Heads
 pub mod Heights
+pub mod Keywords
 pub mod Laws
 pub mod Loops
 pub mod Loose

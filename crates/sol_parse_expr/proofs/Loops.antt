@@ -4,7 +4,7 @@ use Rattle.std.proofs.lemmas.Bool.Decides.{nat_tests}
 use Rattle.sol_tree.specs.declared.token.Token.{Token}
 use Rattle.sol_tree.specs.declared.types.Type as types
 use Rattle.sol_tree.specs.declared.expr.ExprTree as tree
-use Rattle.sol_parse_expr.specs.Reading.{Measured, grow, type_at, first_type_at, brackets_at, array_of, then_tree, Levels, expr_at, ladder, rung, argument_at, arguments_at}
+use Rattle.sol_parse_expr.specs.Reading.{Measured, grow, type_at, first_type_at, brackets_at, array_of, then_tree, ByPrecedence, expr_at, ladder, rung, argument_at, arguments_at}
 
 pub type_at-none : (d : ℕ) (ts : List Token) → d ≡ 0 → type_at d ts ≡ None
 unfolding type_at
@@ -74,29 +74,29 @@ expr_at-some (suc d) l ts h = let e : suc d - 1 ≡ d = omega arith in rw e refl
 
 pub ruleset expr_levels = (expr_at-none, expr_at-some)
 
-pub ladder-none : (d : ℕ) (inner : Levels) (l : ℕ) (ts : List Token) → l ≡ 0 → ladder d inner l ts ≡ None
+pub ladder-none : (d : ℕ) (inner : ByPrecedence) (l : ℕ) (ts : List Token) → l ≡ 0 → ladder d inner l ts ≡ None
 unfolding ladder
 ladder-none d inner zero ts h = refl
 ladder-none d inner (suc l) ts h = absurd (omega arith)
 
-pub ladder-some : (d : ℕ) (inner : Levels) (l : ℕ) (ts : List Token) → 0 < l → ladder d inner l ts ≡ rung l d inner (ladder d inner (l - 1)) ts
+pub ladder-some : (d : ℕ) (inner : ByPrecedence) (l : ℕ) (ts : List Token) → 0 < l → ladder d inner l ts ≡ rung l d inner (ladder d inner (l - 1)) ts
 unfolding ladder
 ladder-some d inner zero ts h = absurd (omega arith)
 ladder-some d inner (suc l) ts h = let e : suc l - 1 ≡ l = omega arith in rw e refl
 
 pub ruleset ladders = (ladder-none, ladder-some)
 
-pub arguments-end : (inner : Levels) (k : ℕ) (es : List tree.ExprTree) (h : ℕ) (ts : List Token) → k ≡ 0 → arguments_at inner k es h ts ≡ Some (es, h, ts)
+pub arguments-end : (inner : ByPrecedence) (k : ℕ) (es : List tree.ExprTree) (h : ℕ) (ts : List Token) → k ≡ 0 → arguments_at inner k es h ts ≡ Some (es, h, ts)
 unfolding arguments_at
 arguments-end inner zero es h ts e = refl
 arguments-end inner (suc k) es h ts e = absurd (omega arith)
 
-pub arguments-stop : (inner : Levels) (k : ℕ) (es : List tree.ExprTree) (h : ℕ) (ts : List Token) → argument_at inner ts ≡ None → arguments_at inner k es h ts ≡ Some (es, h, ts)
+pub arguments-stop : (inner : ByPrecedence) (k : ℕ) (es : List tree.ExprTree) (h : ℕ) (ts : List Token) → argument_at inner ts ≡ None → arguments_at inner k es h ts ≡ Some (es, h, ts)
 unfolding arguments_at
 arguments-stop inner zero es h ts e = refl
 arguments-stop inner (suc k) es h ts e = rw e refl
 
-pub arguments-turn : (inner : Levels) (k : ℕ) (es : List tree.ExprTree) (h : ℕ) (ts : List Token) (a : tree.ExprTree) (n : ℕ) (rest : List Token) → 0 < k → argument_at inner ts ≡ Some (a, n, rest) → arguments_at inner k es h ts ≡ arguments_at inner (k - 1) (es ++ (a ∷ [])) (max h n) rest
+pub arguments-turn : (inner : ByPrecedence) (k : ℕ) (es : List tree.ExprTree) (h : ℕ) (ts : List Token) (a : tree.ExprTree) (n : ℕ) (rest : List Token) → 0 < k → argument_at inner ts ≡ Some (a, n, rest) → arguments_at inner k es h ts ≡ arguments_at inner (k - 1) (es ++ (a ∷ [])) (max h n) rest
 unfolding arguments_at
 arguments-turn inner zero es h ts a n rest l e = absurd (omega arith)
 arguments-turn inner (suc k) es h ts a n rest l e = let r : suc k - 1 ≡ k = omega arith in rw (e, r) refl

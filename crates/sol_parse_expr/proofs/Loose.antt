@@ -11,7 +11,7 @@ use Rattle.sol_parse_expr.specs.declared.nodes.Operand.{Operand}
 use Rattle.sol_parse_expr.specs.declared.nodes.Branches.{Branches}
 use Rattle.sol_parse_expr.specs.Grammar.{IsMark, IsOperator}
 use Rattle.sol_parse_expr.specs.Heights.{height}
-use Rattle.sol_parse_expr.specs.Reading.{Levels, grow, closed_at, prefix_at, operand_at, joined, branches_at, chosen, more_at, ladder, expr_at}
+use Rattle.sol_parse_expr.specs.Reading.{ByPrecedence, grow, closed_at, prefix_at, operand_at, joined, branches_at, chosen, more_at, ladder, expr_at}
 use Rattle.sol_parse_expr.proofs.Tokens.{mark-here, operator-here, mark-not}
 use Rattle.sol_parse_expr.proofs.Heights.{height-not, height-negation, height-binary, height-choice}
 use Rattle.sol_parse_expr.proofs.Loops.{grow-turn, grow-once}
@@ -21,11 +21,11 @@ use Rattle.sol_parse_expr.proofs.Grown.{Done, exact, closed}
 
 -- ---- level 2
 
-pub prefix-not : (d : ℕ) (inner : Levels) (t : Token) (ts : List Token) (e : tree.ExprTree) (h : ℕ) (rest : List Token) → IsMark (codes "!") t → inner 2 ts ≡ Some (e, h, rest) → ladder d inner 2 (t ∷ ts) ≡ Some (tree.Not t.at e, h + 1, rest)
+pub prefix-not : (d : ℕ) (inner : ByPrecedence) (t : Token) (ts : List Token) (e : tree.ExprTree) (h : ℕ) (rest : List Token) → IsMark (codes "!") t → inner 2 ts ≡ Some (e, h, rest) → ladder d inner 2 (t ∷ ts) ≡ Some (tree.Not t.at e, h + 1, rest)
 unfolding prefix_at
 prefix-not d inner t ts e h rest m q = ladder-two d inner (t ∷ ts) ∙ rw (mark-here (codes "!") t ts m, q) refl
 
-pub prefix-negation : (d : ℕ) (inner : Levels) (t : Token) (ts : List Token) (e : tree.ExprTree) (h : ℕ) (rest : List Token) → IsMark (codes "-") t → inner 2 ts ≡ Some (e, h, rest) → ladder d inner 2 (t ∷ ts) ≡ Some (tree.Negation t.at e, h + 1, rest)
+pub prefix-negation : (d : ℕ) (inner : ByPrecedence) (t : Token) (ts : List Token) (e : tree.ExprTree) (h : ℕ) (rest : List Token) → IsMark (codes "-") t → inner 2 ts ≡ Some (e, h, rest) → ladder d inner 2 (t ∷ ts) ≡ Some (tree.Negation t.at e, h + 1, rest)
 unfolding prefix_at
 prefix-negation d inner t ts e h rest m q = ladder-two d inner (t ∷ ts) ∙ rw (mark-not (codes "!") (kind.Mark (codes "-")) t ts m refl, mark-here (codes "-") t ts m, q) refl
 
@@ -47,12 +47,12 @@ done-negation e ts t s pos m d low rest b =
 
 -- ---- levels 3 to 9
 
-pub operand-stands : (l r : ℕ) (inner : Levels) (o : BinaryOp) (t : Token) (ts : List Token) (e : tree.ExprTree) (h : ℕ) (rest : List Token) → IsOperator o t → precedence o ≡ l → inner r ts ≡ Some (e, h, rest) → operand_at l r inner (t ∷ ts) ≡ Some (record { at = t.at; operator = o; right = e }, h, rest)
+pub operand-stands : (l r : ℕ) (inner : ByPrecedence) (o : BinaryOp) (t : Token) (ts : List Token) (e : tree.ExprTree) (h : ℕ) (rest : List Token) → IsOperator o t → precedence o ≡ l → inner r ts ≡ Some (e, h, rest) → operand_at l r inner (t ∷ ts) ≡ Some (record { at = t.at; operator = o; right = e }, h, rest)
 unfolding operand_at
 operand-stands l r inner o t ts e h rest m p q = rw (operator-here l o t ts m p, q) refl
 
 -- what is read at the level below goes on at this one
-climbs : (l d : ℕ) (inner : Levels) (ts : List Token) (e : tree.ExprTree) (h : ℕ) (rest : List Token) → 2 ≤ l → ladder d inner l ts ≡ Some (e, h, rest) → ladder d inner (suc l) ts ≡ more_at (suc l) d inner e h rest
+climbs : (l d : ℕ) (inner : ByPrecedence) (ts : List Token) (e : tree.ExprTree) (h : ℕ) (rest : List Token) → 2 ≤ l → ladder d inner l ts ≡ Some (e, h, rest) → ladder d inner (suc l) ts ≡ more_at (suc l) d inner e h rest
 climbs l d inner ts e h rest p q = ladder-loose d inner l ts p ∙ rw q refl
 
 -- an operator of level 3 and its right operand stand after a tree
@@ -111,7 +111,7 @@ done-grouped l o a b ts us t x p s r pos m d low rest q =
 
 -- ---- level 10
 
-pub branches-stand : (inner : Levels) (q : Token) (ts : List Token) (a : tree.ExprTree) (h : ℕ) (us : List Token) (b : tree.ExprTree) (n : ℕ) (rest : List Token) → IsMark (codes "?") q → closed_at (codes ":") inner ts ≡ Some (a, h, us) → inner 10 us ≡ Some (b, n, rest) → branches_at inner (q ∷ ts) ≡ Some (record { at = q.at; chosen = a; otherwise = b }, max h n, rest)
+pub branches-stand : (inner : ByPrecedence) (q : Token) (ts : List Token) (a : tree.ExprTree) (h : ℕ) (us : List Token) (b : tree.ExprTree) (n : ℕ) (rest : List Token) → IsMark (codes "?") q → closed_at (codes ":") inner ts ≡ Some (a, h, us) → inner 10 us ≡ Some (b, n, rest) → branches_at inner (q ∷ ts) ≡ Some (record { at = q.at; chosen = a; otherwise = b }, max h n, rest)
 unfolding branches_at
 branches-stand inner q ts a h us b n rest m x y = rw (mark-here (codes "?") q ts m, x, y) refl
 

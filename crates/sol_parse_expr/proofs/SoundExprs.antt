@@ -14,7 +14,7 @@ use Rattle.sol_parse_expr.specs.declared.nodes.Suffix.{Suffix}
 use Rattle.sol_parse_expr.specs.Grammar.{IsMark, IsWord, IsName, IsElementary, IsUnit, IsOperator, named_by, MayName, SpellsType, MayUnit, Spells, SpellsAll, SpellsMore, unnamed, elementary, array, mapping, plain, scaled, tighter, number, truth, falsehood, parenthesised, conversion, of_type, of_message, of_super, index, member, call, opposite, negation, power, grouped, choice, nothing, some, ended, another}
 use Rattle.sol_parse_expr.specs.Grammar as grammar
 use Rattle.sol_parse_expr.specs.Heights.{type_height, height, greatest}
-use Rattle.sol_parse_expr.specs.Reading.{Measured, grow, type_at, Levels, message_of, super_of, scaled_at, member_of_word_at, word_tree_at, atom_at, closed_at, parenthesised_at, conversion_at, type_member_at, primary_at, argument_at, arguments_at, all_at, index_at, member_suffix_at, call_at, suffix_at, suffixed, postfix_at, prefix_at, operand_at, joined, branches_at, chosen, more_at, ladder, expr_at}
+use Rattle.sol_parse_expr.specs.Reading.{Measured, grow, type_at, ByPrecedence, message_of, super_of, scaled_at, member_of_word_at, word_tree_at, atom_at, closed_at, parenthesised_at, conversion_at, type_member_at, primary_at, argument_at, arguments_at, all_at, index_at, member_suffix_at, call_at, suffix_at, suffixed, postfix_at, prefix_at, operand_at, joined, branches_at, chosen, more_at, ladder, expr_at}
 use Rattle.sol_parse_expr.proofs.Heights.{height-number, height-true, height-false, height-named, height-parenthesised, height-conversion, height-of_type, height-of_message, height-of_super, height-index, height-member, height-call, height-not, height-negation, height-binary, height-choice}
 use Rattle.sol_parse_expr.proofs.After.{Holds, Front, Read, after-tree, if-tree, either-tree, only, on-test, after-mark, after-word, if-mark, if-word, after-elementary, if-name, after-number, after-operator, after-may_unit, after-member, grown, grown_once}
 use Rattle.sol_parse_expr.proofs.SoundTypes.{sound-type}
@@ -26,8 +26,8 @@ Reads l d = Read height (Spells l) d
 abbrev pub Sound : ℕ → ℕ → Measured tree.ExprTree → Type 0
 Sound l d read = (ts : List Token) → Holds (Front (Reads l d)) ts (read ts)
 
--- the same of all ten levels of binding
-abbrev pub AllSound : ℕ → Levels → Type 0
+-- the same of all ten precedences
+abbrev pub AllSound : ℕ → ByPrecedence → Type 0
 AllSound d inner = (l : ℕ) → l ≤ 10 → Sound l d (inner l)
 
 sound-scaled : (d : ℕ) → Sound 1 (suc d) scaled_at
@@ -67,14 +67,14 @@ pub record ReadClosed (d : ℕ) (m : List ℕ) (e : tree.ExprTree) (us : List To
   pub closes : IsMark m closing
   pub all : us ≡ inside ++ (closing ∷ [])
 
-sound-closed : (d : ℕ) (inner : Levels) → AllSound d inner → (m : List ℕ) (ts : List Token) → Holds (Front (ReadClosed d m)) ts (closed_at m inner ts)
+sound-closed : (d : ℕ) (inner : ByPrecedence) → AllSound d inner → (m : List ℕ) (ts : List Token) → Holds (Front (ReadClosed d m)) ts (closed_at m inner ts)
 unfolding closed_at
 sound-closed d inner s m ts =
     after-tree (inner 10 ts) _ (Front (ReadClosed d m)) (Reads 10 d) ts (s 10 (omega arith) ts) (λ e h us rest r.
     after-mark m rest _ (λ x. Front (ReadClosed d m) (us ++ x)) (λ c end i.
     (us ++ (c ∷ []), record { inside = us; closing = c; read = r; closes = i; all = refl }, sym (append_assoc us (c ∷ []) end))))
 
-sound-parenthesised : (d : ℕ) (inner : Levels) → AllSound d inner → Sound 1 (suc d) (parenthesised_at inner)
+sound-parenthesised : (d : ℕ) (inner : ByPrecedence) → AllSound d inner → Sound 1 (suc d) (parenthesised_at inner)
 unfolding parenthesised_at
 sound-parenthesised d inner s ts =
     after-mark (codes "(") ts _ (Front (Reads 1 (suc d))) (λ o us io.
@@ -88,7 +88,7 @@ sound-parenthesised d inner s ts =
       refl,
     )))
 
-sound-conversion : (d : ℕ) (inner : Levels) → AllSound d inner → Sound 1 (suc d) (conversion_at inner)
+sound-conversion : (d : ℕ) (inner : ByPrecedence) → AllSound d inner → Sound 1 (suc d) (conversion_at inner)
 unfolding conversion_at
 sound-conversion d inner s ts =
     after-elementary ts _ (Front (Reads 1 (suc d))) (λ t ty us it.
@@ -120,7 +120,7 @@ sound-type_member d ts =
       simp append_assoc refl,
     ))))))
 
-sound-primary : (d : ℕ) (inner : Levels) → AllSound d inner → Sound 1 (suc d) (primary_at d inner)
+sound-primary : (d : ℕ) (inner : ByPrecedence) → AllSound d inner → Sound 1 (suc d) (primary_at d inner)
 unfolding primary_at
 sound-primary d inner s ts =
     either-tree (atom_at ts) _ (Front (Reads 1 (suc d))) ts (sound-atom d ts) (
@@ -148,7 +148,7 @@ pub record ReadArgument (d : ℕ) (e : tree.ExprTree) (us : List Token) (h : ℕ
   pub read : Reads 10 d e inside h
   pub all : us ≡ comma ∷ inside
 
-sound-argument : (d : ℕ) (inner : Levels) → AllSound d inner → (ts : List Token) → Holds (Front (ReadArgument d)) ts (argument_at inner ts)
+sound-argument : (d : ℕ) (inner : ByPrecedence) → AllSound d inner → (ts : List Token) → Holds (Front (ReadArgument d)) ts (argument_at inner ts)
 unfolding argument_at
 sound-argument d inner s ts =
     after-mark (codes ",") ts _ (Front (ReadArgument d)) (λ c us ic.
@@ -163,7 +163,7 @@ pub record ReadOn (d : ℕ) (es : List tree.ExprTree) (h : ℕ) (all : List tree
   pub height : max h (greatest (map height more)) ≡ n
   pub low : n ≤ d
 
-sound-arguments : (d : ℕ) (inner : Levels) → AllSound d inner → (k : ℕ) (es : List tree.ExprTree) (h : ℕ) → h ≤ d → (ts : List Token) → Holds (Front (ReadOn d es h)) ts (arguments_at inner k es h ts)
+sound-arguments : (d : ℕ) (inner : ByPrecedence) → AllSound d inner → (k : ℕ) (es : List tree.ExprTree) (h : ℕ) → h ≤ d → (ts : List Token) → Holds (Front (ReadOn d es h)) ts (arguments_at inner k es h ts)
 unfolding arguments_at
 sound-arguments d inner s zero es h low ts = ([], record { more = []; joined = sym (append-nil es); spells = ended; height = omega arith; low = low }, refl)
 sound-arguments d inner s (suc k) es h low ts =
@@ -185,7 +185,7 @@ sound-arguments d inner s (suc k) es h low ts =
     )))
     ([], record { more = []; joined = sym (append-nil es); spells = ended; height = omega arith; low = low }, refl)
 
-pub sound-all : (d : ℕ) (inner : Levels) → AllSound d inner → (ts : List Token) → Holds (Front (ReadAll d)) ts (all_at inner ts)
+pub sound-all : (d : ℕ) (inner : ByPrecedence) → AllSound d inner → (ts : List Token) → Holds (Front (ReadAll d)) ts (all_at inner ts)
 unfolding all_at
 sound-all d inner s ts =
     if-tree (inner 10 ts) _ _ (Front (ReadAll d)) (Reads 10 d) ts (s 10 (omega arith) ts) (λ e h us rest r.
@@ -204,7 +204,7 @@ pub record ReadSuffix (d : ℕ) (p : Suffix) (us : List Token) (h : ℕ) : Type 
   pub height : (a : tree.ExprTree) → height (suffixed a p) ≡ max (height a) h + 1
   pub low : h ≤ d
 
-sound-index : (d : ℕ) (inner : Levels) → AllSound d inner → (ts : List Token) → Holds (Front (ReadSuffix d)) ts (index_at inner ts)
+sound-index : (d : ℕ) (inner : ByPrecedence) → AllSound d inner → (ts : List Token) → Holds (Front (ReadSuffix d)) ts (index_at inner ts)
 unfolding index_at
 sound-index d inner s ts =
     after-mark (codes "[") ts _ (Front (ReadSuffix d)) (λ o us io.
@@ -234,7 +234,7 @@ sound-member_suffix d ts =
       refl,
     ))
 
-sound-call : (d : ℕ) (inner : Levels) → AllSound d inner → (ts : List Token) → Holds (Front (ReadSuffix d)) ts (call_at inner ts)
+sound-call : (d : ℕ) (inner : ByPrecedence) → AllSound d inner → (ts : List Token) → Holds (Front (ReadSuffix d)) ts (call_at inner ts)
 unfolding call_at
 sound-call d inner s ts =
     after-mark (codes "(") ts _ (Front (ReadSuffix d)) (λ o us io.
@@ -249,7 +249,7 @@ sound-call d inner s ts =
       simp append_assoc refl,
     ))))
 
-pub sound-suffix : (d : ℕ) (inner : Levels) → AllSound d inner → (ts : List Token) → Holds (Front (ReadSuffix d)) ts (suffix_at inner ts)
+pub sound-suffix : (d : ℕ) (inner : ByPrecedence) → AllSound d inner → (ts : List Token) → Holds (Front (ReadSuffix d)) ts (suffix_at inner ts)
 unfolding suffix_at
 sound-suffix d inner s ts =
     either-tree (index_at inner ts) _ (Front (ReadSuffix d)) ts (sound-index d inner s ts) (
@@ -263,7 +263,7 @@ suffix-joins d a p us vs h n r q = record {
   low = omega (arith, r.low, q.low);
 }
 
-sound-postfix : (d : ℕ) (inner : Levels) → AllSound d inner → Sound 1 (suc d) (postfix_at d inner)
+sound-postfix : (d : ℕ) (inner : ByPrecedence) → AllSound d inner → Sound 1 (suc d) (postfix_at d inner)
 unfolding postfix_at
 sound-postfix d inner s ts =
     after-tree (primary_at d inner ts) _ (Front (Reads 1 (suc d))) (Reads 1 (suc d)) ts (sound-primary d inner s ts) (λ e h us rest r.
@@ -271,7 +271,7 @@ sound-postfix d inner s ts =
 
 -- ---- level 2
 
-sound-prefix : (d : ℕ) (inner : Levels) → AllSound d inner → Sound 2 (suc d) (prefix_at inner (postfix_at d inner))
+sound-prefix : (d : ℕ) (inner : ByPrecedence) → AllSound d inner → Sound 2 (suc d) (prefix_at inner (postfix_at d inner))
 unfolding prefix_at
 sound-prefix d inner s ts =
     if-mark (codes "!") ts _ _ (Front (Reads 2 (suc d))) (λ t us i.
@@ -295,7 +295,7 @@ pub record ReadOperand (l r d : ℕ) (o : Operand) (us : List Token) (h : ℕ) :
   pub read : Reads r d o.right inside h
   pub all : us ≡ sign ∷ inside
 
-pub sound-operand : (l r d : ℕ) (inner : Levels) → r ≤ 10 → AllSound d inner → (ts : List Token) → Holds (Front (ReadOperand l r d)) ts (operand_at l r inner ts)
+pub sound-operand : (l r d : ℕ) (inner : ByPrecedence) → r ≤ 10 → AllSound d inner → (ts : List Token) → Holds (Front (ReadOperand l r d)) ts (operand_at l r inner ts)
 unfolding operand_at
 sound-operand l r d inner low s ts =
     after-operator l ts _ (Front (ReadOperand l r d)) (λ t o us i p.
@@ -344,7 +344,7 @@ pub record ReadBranches (d : ℕ) (b : Branches) (us : List Token) (h : ℕ) : T
   pub height : (c : tree.ExprTree) → height (chosen c b) ≡ max (height c) h + 1
   pub low : h ≤ d
 
-pub sound-branches : (d : ℕ) (inner : Levels) → AllSound d inner → (ts : List Token) → Holds (Front (ReadBranches d)) ts (branches_at inner ts)
+pub sound-branches : (d : ℕ) (inner : ByPrecedence) → AllSound d inner → (ts : List Token) → Holds (Front (ReadBranches d)) ts (branches_at inner ts)
 unfolding branches_at
 sound-branches d inner s ts =
     after-mark (codes "?") ts _ (Front (ReadBranches d)) (λ q t1 iq.
@@ -370,7 +370,7 @@ weaker : (l : ℕ) → 1 ≤ l → l < 10 → (a : tree.ExprTree) (us : List Tok
 weaker l deep few a us s = tighter deep few s
 
 -- what goes on with an expression of level l, to one of the next level
-sound-more : (l d : ℕ) (inner : Levels) → 2 ≤ l → l < 10 → AllSound d inner → (e : tree.ExprTree) (h : ℕ) (us ts : List Token) → Reads l (suc d) e us h → Holds (Front (Reads (suc l) (suc d))) (us ++ ts) (more_at (suc l) d inner e h ts)
+sound-more : (l d : ℕ) (inner : ByPrecedence) → 2 ≤ l → l < 10 → AllSound d inner → (e : tree.ExprTree) (h : ℕ) (us ts : List Token) → Reads l (suc d) e us h → Holds (Front (Reads (suc l) (suc d))) (us ++ ts) (more_at (suc l) d inner e h ts)
 unfolding more_at
 sound-more l d inner deep few s e h us ts r =
     on-test (nat_eq (suc l) 3) _ _ (Front (Reads (suc l) (suc d))) (us ++ ts) (λ q.
@@ -385,7 +385,7 @@ sound-more l d inner deep few s e h us ts r =
     let same : suc l - 1 ≡ l = omega arith in
     rw same (grown joined d (operand_at (suc l) l inner) (Spells (suc l)) height (ReadOperand (suc l) l d) (sound-operand (suc l) l d inner (omega (arith, few)) s) (operand-joins l d three) (length ts) e h us ts (record { spells = tighter (omega (arith, deep)) few r.spells; height = r.height; low = r.low }))))
 
-sound-ladder : (l d : ℕ) (inner : Levels) → l ≤ 10 → AllSound d inner → Sound l (suc d) (ladder d inner l)
+sound-ladder : (l d : ℕ) (inner : ByPrecedence) → l ≤ 10 → AllSound d inner → Sound l (suc d) (ladder d inner l)
 unfolding ladder
 sound-ladder zero d inner low s ts = tt
 sound-ladder (suc zero) d inner low s ts = sound-postfix d inner s ts

@@ -13,7 +13,7 @@ use Rattle.sol_tree.specs.declared.expr.BinaryOp.{BinaryOp}
 use Rattle.sol_tree.specs.Words.{is_name}
 use Rattle.sol_tree.specs.Precedence.{precedence}
 use Rattle.sol_parse_expr.specs.Grammar.{IsMark, IsWord, IsName, IsElementary, IsUnit, IsOperator, named_by}
-use Rattle.sol_parse_expr.specs.Reading.{is_mark, is_word, type_of, unit_of, binary_of, of_level, name_of, number_of, mark_at, word_at, elementary_at, unit_at, operator_at, name_at, number_at}
+use Rattle.sol_parse_expr.specs.Reading.{is_mark, is_word, type_of, unit_of, binary_of, of_precedence, name_of, number_of, mark_at, word_at, elementary_at, unit_at, operator_at, name_at, number_at}
 
 pub either : (b : Bool) → (b ≡ true) ⊎ (b ≡ false)
 either true = inl refl
@@ -84,7 +84,7 @@ pub number-not : (k : TokenKind) (t : Token) (ts : List Token) → t.kind ≡ k 
 unfolding number_at
 number-not k t ts h q = rw (h, q) refl
 
-pub operator-not : (l : ℕ) (k : TokenKind) (t : Token) (ts : List Token) → t.kind ≡ k → of_level l (binary_of k) ≡ None → operator_at l (t ∷ ts) ≡ None
+pub operator-not : (l : ℕ) (k : TokenKind) (t : Token) (ts : List Token) → t.kind ≡ k → of_precedence l (binary_of k) ≡ None → operator_at l (t ∷ ts) ≡ None
 unfolding operator_at
 operator-not l k t ts h q = rw (h, q) refl
 
@@ -191,19 +191,19 @@ is-operator o t (kind.Number z x) e h = absurd (cc)
 is-operator o t kind.Text e h = absurd (cc)
 is-operator o t (kind.Mark n) e h = record { text = n; mark = e; named = h }
 
-level-test : (l : ℕ) (p o : BinaryOp) (b : Bool) → nat_eq (precedence p) l ≡ b → of_level l (Some p) ≡ Some o → (p ≡ o) × (precedence o ≡ l)
-level-test l p o true q h =
+precedence-test : (l : ℕ) (p o : BinaryOp) (b : Bool) → nat_eq (precedence p) l ≡ b → of_precedence l (Some p) ≡ Some o → (p ≡ o) × (precedence o ≡ l)
+precedence-test l p o true q h =
     let s : ◌≡◌ {A = Option BinaryOp} (Some p) (Some o) = rw q at h in
     let i : p ≡ o = cc in
     let j : precedence p ≡ l = grind (arith, nat_tests) in
     (i, rw i at j)
-level-test l p o false q h =
+precedence-test l p o false q h =
     let s : ◌≡◌ {A = Option BinaryOp} None (Some o) = rw q at h in
     absurd (cc)
 
-of-level : (l : ℕ) (o : BinaryOp) (c : Option BinaryOp) → of_level l c ≡ Some o → (c ≡ Some o) × (precedence o ≡ l)
-of-level l o None h = absurd (cc)
-of-level l o (Some p) h = let x = level-test l p o (nat_eq (precedence p) l) refl h in (ap (λ (z : BinaryOp). Some z) x.0, x.1)
+of-precedence : (l : ℕ) (o : BinaryOp) (c : Option BinaryOp) → of_precedence l c ≡ Some o → (c ≡ Some o) × (precedence o ≡ l)
+of-precedence l o None h = absurd (cc)
+of-precedence l o (Some p) h = let x = precedence-test l p o (nat_eq (precedence p) l) refl h in (ap (λ (z : BinaryOp). Some z) x.0, x.1)
 
 abbrev pub OperatorOr : ℕ → List Token → Type 0
 OperatorOr l ts = (operator_at l ts ≡ None) ⊎ ((t : Token) × (o : BinaryOp) × (rest : List Token) × IsOperator o t × (precedence o ≡ l) × (ts ≡ t ∷ rest) × (operator_at l ts ≡ Some ((t.at, o), rest)))
@@ -211,9 +211,9 @@ OperatorOr l ts = (operator_at l ts ≡ None) ⊎ ((t : Token) × (o : BinaryOp)
 pub operator-or : (l : ℕ) (ts : List Token) → OperatorOr l ts
 unfolding operator_at
 operator-or l [] = inl refl
-operator-or l (t ∷ ts) = elim (optional (of_level l (binary_of t.kind))) [
+operator-or l (t ∷ ts) = elim (optional (of_precedence l (binary_of t.kind))) [
   | inl b ↦ inl (rw b refl)
   | inr x ↦
-      let y = of-level l x.0 (binary_of t.kind) x.1 in
+      let y = of-precedence l x.0 (binary_of t.kind) x.1 in
       inr (t, x.0, ts, is-operator x.0 t t.kind refl y.0, y.1, refl, rw (x.1) refl)
 ]

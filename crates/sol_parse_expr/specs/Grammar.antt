@@ -61,10 +61,10 @@ pub data MayUnit : Option NumberUnit → List Token → Type 0 where
   scaled : {u : NumberUnit} (t : Token) → IsUnit u t → MayUnit (Some u) (t ∷ [])
 
 mutual
-  -- an expression of one of the ten levels, from what binds most tightly (1) to what binds most loosely (10)
+  -- an expression of one of the ten precedences, from what binds most tightly (1) to what binds most loosely (10)
   pub data Spells : ℕ → tree.ExprTree → List Token → Type 0 where
     tighter : {l : ℕ} {e : tree.ExprTree} {ts : List Token} → 1 ≤ l → l < 10 → Spells l e ts → Spells (suc l) e ts
-    -- level 1
+    -- precedence 1
     number : {z : ℤ} {h : Bool} {u : Option NumberUnit} (t : Token) {us : List Token} → t.kind ≡ kind.Number z h → MayUnit u us → Spells 1 (tree.Number t.at z h u) (t ∷ us)
     truth : (t : Token) → IsWord (codes "true") t → Spells 1 (tree.True t.at) (t ∷ [])
     falsehood : (t : Token) → IsWord (codes "false") t → Spells 1 (tree.False t.at) (t ∷ [])
@@ -77,14 +77,14 @@ mutual
     index : {a i : tree.ExprTree} (o c : Token) {ts us : List Token} → Spells 1 a ts → IsMark (codes "[") o → Spells 10 i us → IsMark (codes "]") c → Spells 1 (tree.Index (place_of a) a o.at i) (ts ++ (o ∷ (us ++ (c ∷ []))))
     member : {a : tree.ExprTree} {n : List ℕ} (d m : Token) {ts : List Token} → Spells 1 a ts → IsMark (codes ".") d → IsName n m → Spells 1 (tree.Member (place_of a) a (named_by n m)) (ts ++ (d ∷ (m ∷ [])))
     call : {a : tree.ExprTree} {es : List tree.ExprTree} (o c : Token) {ts us : List Token} → Spells 1 a ts → IsMark (codes "(") o → SpellsAll es us → IsMark (codes ")") c → Spells 1 (tree.Call (place_of a) a o.at es) (ts ++ (o ∷ (us ++ (c ∷ []))))
-    -- level 2
+    -- precedence 2
     opposite : {e : tree.ExprTree} (t : Token) {ts : List Token} → IsMark (codes "!") t → Spells 2 e ts → Spells 2 (tree.Not t.at e) (t ∷ ts)
     negation : {e : tree.ExprTree} (t : Token) {ts : List Token} → IsMark (codes "-") t → Spells 2 e ts → Spells 2 (tree.Negation t.at e) (t ∷ ts)
-    -- level 3, to the right
+    -- precedence 3, to the right
     power : {a b : tree.ExprTree} (t : Token) {ts us : List Token} → Spells 2 a ts → IsOperator operator.Power t → Spells 3 b us → Spells 3 (tree.Binary (place_of a) a t.at operator.Power b) (ts ++ (t ∷ us))
-    -- levels 4 to 9, to the left
+    -- precedences 4 to 9, to the left
     grouped : {l : ℕ} {o : BinaryOp} {a b : tree.ExprTree} (t : Token) {ts us : List Token} → 3 ≤ l → precedence o ≡ suc l → Spells (suc l) a ts → IsOperator o t → Spells l b us → Spells (suc l) (tree.Binary (place_of a) a t.at o b) (ts ++ (t ∷ us))
-    -- level 10, to the right
+    -- precedence 10, to the right
     choice : {a b c : tree.ExprTree} (q s : Token) {ts us vs : List Token} → Spells 9 c ts → IsMark (codes "?") q → Spells 10 a us → IsMark (codes ":") s → Spells 10 b vs → Spells 10 (tree.Choice (place_of c) c q.at a b) (ts ++ (q ∷ (us ++ (s ∷ vs))))
 
   -- `[args]`

@@ -4,7 +4,7 @@ use lib.IntN.{ℤ}
 use denote.Ref.{Bor}
 use Rattle.std.specs.Str.{bytes_eq}
 use Rattle.chc_nums.specs.declared.typed.Ty.{Ty}
-use Rattle.chc_nums.specs.declared.memory.NoMemory.{NoMemory}
+use Rattle.lists.specs.declared.memory.NoMemory.{NoMemory}
 use Rattle.sol_tree.specs.declared.token.Token.{Token}
 use Rattle.sol_tree.specs.declared.token.TokenKind.{TokenKind}
 use Rattle.sol_tree.specs.declared.token.TokenKind.TheVariants as kind
@@ -89,13 +89,13 @@ binary_of (kind.Number z h) = None
 binary_of kind.Text = None
 binary_of (kind.Mark n) = operator_of n
 
-abbrev pub of_level : ℕ → Option BinaryOp → Option BinaryOp
-of_level l None = None
-of_level l (Some o) = if nat_eq (precedence o) l then Some o else None
+abbrev pub of_precedence : ℕ → Option BinaryOp → Option BinaryOp
+of_precedence l None = None
+of_precedence l (Some o) = if nat_eq (precedence o) l then Some o else None
 
 unfoldable pub operator_at : ℕ → Reader (ℕ × BinaryOp)
 operator_at l [] = None
-operator_at l (t ∷ ts) = placed t.at (of_level l (binary_of t.kind)) ts
+operator_at l (t ∷ ts) = placed t.at (of_precedence l (binary_of t.kind)) ts
 
 abbrev pub name_of : TokenKind → Option (List ℕ)
 name_of (kind.Word w) = if is_name w then Some w else None
@@ -183,8 +183,8 @@ type_at (suc d) ts = then_tree (first_type_at (type_at d) ts) (λ t h rest. grow
 
 -- ---- expressions
 
-abbrev pub Levels : Type 0
-Levels = ℕ → Measured tree.ExprTree
+abbrev pub ByPrecedence : Type 0
+ByPrecedence = ℕ → Measured tree.ExprTree
 
 abbrev pub message_of : ℕ → Identifier → tree.ExprTree
 message_of at i = tree.MessageMember at i
@@ -235,19 +235,19 @@ atom_at ts =
     member_of_word_at (codes "super") super_of ts)))
 
 -- `expr )`
-unfoldable pub closed_at : List ℕ → Levels → Measured tree.ExprTree
+unfoldable pub closed_at : List ℕ → ByPrecedence → Measured tree.ExprTree
 closed_at m inner ts =
     then_tree (inner 10 ts) (λ e h us.
     then_value (mark_at m us) (λ p rest.
     Some (e, h, rest)))
 
-unfoldable pub parenthesised_at : Levels → Measured tree.ExprTree
+unfoldable pub parenthesised_at : ByPrecedence → Measured tree.ExprTree
 parenthesised_at inner ts =
     then_value (mark_at (codes "(") ts) (λ at us.
     then_tree (closed_at (codes ")") inner us) (λ e h rest.
     Some (tree.Parenthesised at e, h + 1, rest)))
 
-unfoldable pub conversion_at : Levels → Measured tree.ExprTree
+unfoldable pub conversion_at : ByPrecedence → Measured tree.ExprTree
 conversion_at inner ts =
     then_value (elementary_at ts) (λ p us.
     then_value (mark_at (codes "(") us) (λ at vs.
@@ -263,7 +263,7 @@ type_member_at d ts =
     then_value (member_at t4) (λ i rest.
     Some (tree.TypeMember at t i, h + 1, rest))))))
 
-unfoldable pub primary_at : ℕ → Levels → Measured tree.ExprTree
+unfoldable pub primary_at : ℕ → ByPrecedence → Measured tree.ExprTree
 primary_at d inner ts =
     or_tree (atom_at ts) (
     or_tree (parenthesised_at inner ts) (
@@ -271,19 +271,19 @@ primary_at d inner ts =
     type_member_at d ts)))
 
 -- `, expr`
-unfoldable pub argument_at : Levels → Measured tree.ExprTree
+unfoldable pub argument_at : ByPrecedence → Measured tree.ExprTree
 argument_at inner ts = then_value (mark_at (codes ",") ts) (λ p us. inner 10 us)
 
 -- `{ , expr }`, k at most, after those of es
-unfoldable pub arguments_at : Levels → ℕ → List tree.ExprTree → ℕ → Measured (List tree.ExprTree)
+unfoldable pub arguments_at : ByPrecedence → ℕ → List tree.ExprTree → ℕ → Measured (List tree.ExprTree)
 arguments_at inner zero es h ts = Some (es, h, ts)
 arguments_at inner (suc k) es h ts = if_tree (argument_at inner ts) (λ e n rest. arguments_at inner k (es ++ (e ∷ [])) (max h n) rest) (Some (es, h, ts))
 
 -- `[args]`
-unfoldable pub all_at : Levels → Measured (List tree.ExprTree)
+unfoldable pub all_at : ByPrecedence → Measured (List tree.ExprTree)
 all_at inner ts = if_tree (inner 10 ts) (λ e h us. arguments_at inner (length us) (e ∷ []) h us) (Some ([], 0, ts))
 
-unfoldable pub index_at : Levels → Measured Suffix
+unfoldable pub index_at : ByPrecedence → Measured Suffix
 index_at inner ts =
     then_value (mark_at (codes "[") ts) (λ at us.
     then_tree (closed_at (codes "]") inner us) (λ e h rest.
@@ -292,7 +292,7 @@ index_at inner ts =
 unfoldable pub member_suffix_at : Measured Suffix
 member_suffix_at ts = then_value (member_at ts) (λ i rest. Some (suffix.Member i, 0, rest))
 
-unfoldable pub call_at : Levels → Measured Suffix
+unfoldable pub call_at : ByPrecedence → Measured Suffix
 call_at inner ts =
     then_value (mark_at (codes "(") ts) (λ at us.
     then_tree (all_at inner us) (λ es h vs.
@@ -300,7 +300,7 @@ call_at inner ts =
     Some (suffix.Call at es, h, rest))))
 
 -- `[expr]`, `.ID` or `([args])`
-unfoldable pub suffix_at : Levels → Measured Suffix
+unfoldable pub suffix_at : ByPrecedence → Measured Suffix
 suffix_at inner ts = or_tree (index_at inner ts) (or_tree (member_suffix_at ts) (call_at inner ts))
 
 abbrev pub suffixed : tree.ExprTree → Suffix → tree.ExprTree
@@ -308,25 +308,25 @@ suffixed e (suffix.Index at i) = tree.Index (place_of e) e at i
 suffixed e (suffix.Member i) = tree.Member (place_of e) e i
 suffixed e (suffix.Call at es) = tree.Call (place_of e) e at es
 
--- level 1
-unfoldable pub postfix_at : ℕ → Levels → Measured tree.ExprTree
+-- precedence 1
+unfoldable pub postfix_at : ℕ → ByPrecedence → Measured tree.ExprTree
 postfix_at d inner ts = then_tree (primary_at d inner ts) (λ e h rest. grow suffixed d (suffix_at inner) (length rest) e h rest)
 
-abbrev pub opposite_at : Levels → ℕ → Measured tree.ExprTree
+abbrev pub opposite_at : ByPrecedence → ℕ → Measured tree.ExprTree
 opposite_at inner at ts = then_tree (inner 2 ts) (λ e h rest. Some (tree.Not at e, h + 1, rest))
 
-abbrev pub negation_at : Levels → ℕ → Measured tree.ExprTree
+abbrev pub negation_at : ByPrecedence → ℕ → Measured tree.ExprTree
 negation_at inner at ts = then_tree (inner 2 ts) (λ e h rest. Some (tree.Negation at e, h + 1, rest))
 
--- level 2
-unfoldable pub prefix_at : Levels → Measured tree.ExprTree → Measured tree.ExprTree
+-- precedence 2
+unfoldable pub prefix_at : ByPrecedence → Measured tree.ExprTree → Measured tree.ExprTree
 prefix_at inner below ts =
     if_value (mark_at (codes "!") ts) (λ at us. opposite_at inner at us) (
     if_value (mark_at (codes "-") ts) (λ at us. negation_at inner at us) (
     below ts))
 
--- an operator of level l, and an operand of level r
-unfoldable pub operand_at : ℕ → ℕ → Levels → Measured Operand
+-- an operator of precedence l, and an operand of precedence r
+unfoldable pub operand_at : ℕ → ℕ → ByPrecedence → Measured Operand
 operand_at l r inner ts =
     then_value (operator_at l ts) (λ o us.
     then_tree (inner r us) (λ e h rest.
@@ -336,7 +336,7 @@ abbrev pub joined : tree.ExprTree → Operand → tree.ExprTree
 joined e o = tree.Binary (place_of e) e o.at o.operator o.right
 
 -- `? expr : expr`
-unfoldable pub branches_at : Levels → Measured Branches
+unfoldable pub branches_at : ByPrecedence → Measured Branches
 branches_at inner ts =
     then_value (mark_at (codes "?") ts) (λ at t1.
     then_tree (closed_at (codes ":") inner t1) (λ a h t2.
@@ -346,27 +346,27 @@ branches_at inner ts =
 abbrev pub chosen : tree.ExprTree → Branches → tree.ExprTree
 chosen e b = tree.Choice (place_of e) e b.at b.chosen b.otherwise
 
--- how an expression of the level below goes on at level l
-unfoldable pub more_at : ℕ → ℕ → Levels → tree.ExprTree → ℕ → Measured tree.ExprTree
+-- how an expression of the precedence below goes on at precedence l
+unfoldable pub more_at : ℕ → ℕ → ByPrecedence → tree.ExprTree → ℕ → Measured tree.ExprTree
 more_at l d inner e h ts =
     if nat_eq l 3 then grow joined d (operand_at 3 3 inner) 1 e h ts else (
     if nat_eq l 10 then grow chosen d (branches_at inner) 1 e h ts else
     grow joined d (operand_at l (l - 1) inner) (length ts) e h ts)
 
--- levels 3 to 10
-abbrev pub loose : ℕ → ℕ → Levels → Measured tree.ExprTree → Measured tree.ExprTree
+-- precedences 3 to 10
+abbrev pub loose : ℕ → ℕ → ByPrecedence → Measured tree.ExprTree → Measured tree.ExprTree
 loose l d inner below ts = then_tree (below ts) (λ e h rest. more_at l d inner e h rest)
 
-abbrev pub rung : ℕ → ℕ → Levels → Measured tree.ExprTree → Measured tree.ExprTree
+abbrev pub rung : ℕ → ℕ → ByPrecedence → Measured tree.ExprTree → Measured tree.ExprTree
 rung l d inner below ts = if nat_eq l 1 then postfix_at d inner ts else (if nat_eq l 2 then prefix_at inner (postfix_at d inner) ts else loose l d inner below ts)
 
--- an expression by the level of its binding
-unfoldable pub ladder : ℕ → Levels → Levels
+-- an expression by its precedence
+unfoldable pub ladder : ℕ → ByPrecedence → ByPrecedence
 ladder d inner zero ts = None
 ladder d inner (suc l) ts = rung (suc l) d inner (ladder d inner l) ts
 
--- an expression of at most so many levels, by the level of its binding
-unfoldable pub expr_at : ℕ → Levels
+-- an expression of at most so many levels, by its precedence
+unfoldable pub expr_at : ℕ → ByPrecedence
 expr_at zero l ts = None
 expr_at (suc d) l ts = ladder d (expr_at d) l ts
 

@@ -3,28 +3,32 @@
 
 ghost use Rattle.std.specs.Prelude.{◌≡◌, ◌≤◌, ◌+◌, ◌-◌, codes, length};
 ghost use Rattle.sol_parse_expr.specs.Reading.{Gives, GivesOne, ReadsTree, Within, WithinOne, WithinTree, all_at, argument_at, arguments_at, atom_at, branches_at, call_at, chosen, closed_at, conversion_at, expr_at, grow, index_at, joined, ladder, loose, member_of_word_at, member_suffix_at, message_of, more_at, negation_at, operand_at, opposite_at, parenthesised_at, postfix_at, prefix_at, primary_at, scaled_at, suffix_at, suffixed, super_of, type_member_at, word_tree_at};
+ghost use Rattle.chc_nums.specs.declared.limits.TheConstants.{MAX_FILE_BYTES, MAX_LEVELS};
 ghost use Rattle.sol_parse_expr.specs.Longest.{Finds};
 
 use crate::fault::ParseFault;
+use crate::furthest::Furthest;
 use crate::nodes::{Branches, Operand, Suffix, chosen, joined, suffixed};
-use crate::reach::Reach;
 use crate::steps::{
     elementary_at, mark_at, may_unit_at, member_at, name_at, number_at, operator_at, word_at,
 };
 use crate::types::type_at;
-use chc_nums::NoMemory;
+use chc_nums::{MAX_LEVELS, NoMemory};
 use sol_tree::{ExprTree, Token};
 use sqlite_items::{Boxed, Items};
 use std::alloc::Global;
 
 // `NUM [unit]`
 #[tactic(auto, unfolding(crate::specs::Reading::scaled_at))]
-fn scaled_at<'a>(reach: &mut Reach, tokens: &'a [Token]) -> Option<(ExprTree, u32, &'a [Token])>
+fn scaled_at<'a>(
+    furthest: &mut Furthest,
+    tokens: &'a [Token],
+) -> Option<(ExprTree, u32, &'a [Token])>
     ensures read { ReadsTree result (scaled_at tokens.now) }
     ensures within { WithinTree 1 result }
 {
-    let ((at, (value, hex)), rest) = number_at(reach, tokens)?;
-    let (unit, rest) = may_unit_at(reach, rest);
+    let ((at, (value, hex)), rest) = number_at(furthest, tokens)?;
+    let (unit, rest) = may_unit_at(furthest, rest);
     let tree = ExprTree::Number {
         at,
         value,
@@ -37,19 +41,19 @@ fn scaled_at<'a>(reach: &mut Reach, tokens: &'a [Token]) -> Option<(ExprTree, u3
 // `true`, `false` or a name.
 #[tactic(auto, unfolding(crate::specs::Reading::word_tree_at))]
 fn word_tree_at<'a>(
-    reach: &mut Reach,
+    furthest: &mut Furthest,
     tokens: &'a [Token],
 ) -> Result<Option<(ExprTree, u32, &'a [Token])>, NoMemory>
     ensures read { Gives result (word_tree_at tokens.now) }
     ensures within { Within 1 result }
 {
-    if let Some((at, rest)) = word_at(reach, b"true", tokens) {
+    if let Some((at, rest)) = word_at(furthest, b"true", tokens) {
         return Ok(Some((ExprTree::True { at }, 1, rest)));
     }
-    if let Some((at, rest)) = word_at(reach, b"false", tokens) {
+    if let Some((at, rest)) = word_at(furthest, b"false", tokens) {
         return Ok(Some((ExprTree::False { at }, 1, rest)));
     }
-    let Some((name, rest)) = name_at(reach, tokens)? else {
+    let Some((name, rest)) = name_at(furthest, tokens)? else {
         return Ok(None);
     };
     let tree = ExprTree::Named {
@@ -62,16 +66,16 @@ fn word_tree_at<'a>(
 // `msg . ID`
 #[tactic(auto, unfolding(crate::specs::Reading::member_of_word_at))]
 fn message_at<'a>(
-    reach: &mut Reach,
+    furthest: &mut Furthest,
     tokens: &'a [Token],
 ) -> Result<Option<(ExprTree, u32, &'a [Token])>, NoMemory>
     ensures read { Gives result (member_of_word_at (codes "msg") message_of tokens.now) }
     ensures within { Within 1 result }
 {
-    let Some((at, rest)) = word_at(reach, b"msg", tokens) else {
+    let Some((at, rest)) = word_at(furthest, b"msg", tokens) else {
         return Ok(None);
     };
-    let Some((member, rest)) = member_at(reach, rest)? else {
+    let Some((member, rest)) = member_at(furthest, rest)? else {
         return Ok(None);
     };
     Ok(Some((ExprTree::MessageMember { at, member }, 1, rest)))
@@ -80,16 +84,16 @@ fn message_at<'a>(
 // `super . ID`
 #[tactic(auto, unfolding(crate::specs::Reading::member_of_word_at))]
 fn super_at<'a>(
-    reach: &mut Reach,
+    furthest: &mut Furthest,
     tokens: &'a [Token],
 ) -> Result<Option<(ExprTree, u32, &'a [Token])>, NoMemory>
     ensures read { Gives result (member_of_word_at (codes "super") super_of tokens.now) }
     ensures within { Within 1 result }
 {
-    let Some((at, rest)) = word_at(reach, b"super", tokens) else {
+    let Some((at, rest)) = word_at(furthest, b"super", tokens) else {
         return Ok(None);
     };
-    let Some((member, rest)) = member_at(reach, rest)? else {
+    let Some((member, rest)) = member_at(furthest, rest)? else {
         return Ok(None);
     };
     Ok(Some((ExprTree::SuperMember { at, member }, 1, rest)))
@@ -98,40 +102,41 @@ fn super_at<'a>(
 // What has no expression and no type inside.
 #[tactic(auto, unfolding(crate::specs::Reading::atom_at))]
 fn atom_at<'a>(
-    reach: &mut Reach,
+    furthest: &mut Furthest,
     tokens: &'a [Token],
 ) -> Result<Option<(ExprTree, u32, &'a [Token])>, NoMemory>
     ensures read { Gives result (atom_at tokens.now) }
     ensures within { Within 1 result }
 {
-    if let Some(found) = scaled_at(reach, tokens) {
+    if let Some(found) = scaled_at(furthest, tokens) {
         return Ok(Some(found));
     }
-    if let Some(found) = word_tree_at(reach, tokens)? {
+    if let Some(found) = word_tree_at(furthest, tokens)? {
         return Ok(Some(found));
     }
-    if let Some(found) = message_at(reach, tokens)? {
+    if let Some(found) = message_at(furthest, tokens)? {
         return Ok(Some(found));
     }
-    super_at(reach, tokens)
+    super_at(furthest, tokens)
 }
 
 // An expression, and then a mark.
 #[cycle(expressions)]
 #[tactic(auto, unfolding(crate::specs::Reading::closed_at))]
 fn closed_at<'a>(
-    reach: &mut Reach,
+    furthest: &mut Furthest,
     mark: &[u8],
     inner: u8,
     tokens: &'a [Token],
-) -> Result<Option<(ExprTree, u32, &'a [Token])>, NoMemory>
+) -> Result<Option<(Boxed<ExprTree>, u32, &'a [Token])>, NoMemory>
     ensures read { Gives result (closed_at mark.now (expr_at inner) tokens.now) }
     ensures within { Within inner result }
 {
-    let Some((tree, height, rest)) = expr_at(reach, inner, 10, tokens)? else {
+    let Some((tree, height, rest)) = expr_at(furthest, inner, 10, tokens)? else {
         return Ok(None);
     };
-    let Some((_, rest)) = mark_at(reach, mark, rest) else {
+    let tree = Boxed::new(furthest.alloc, tree)?;
+    let Some((_, rest)) = mark_at(furthest, mark, rest) else {
         return Ok(None);
     };
     Ok(Some((tree, height, rest)))
@@ -141,51 +146,47 @@ fn closed_at<'a>(
 #[cycle(expressions)]
 #[tactic(auto, unfolding(crate::specs::Reading::parenthesised_at))]
 fn parenthesised_at<'a>(
-    reach: &mut Reach,
+    furthest: &mut Furthest,
     inner: u8,
     tokens: &'a [Token],
 ) -> Result<Option<(ExprTree, u32, &'a [Token])>, NoMemory>
     ensures read { Gives result (parenthesised_at (expr_at inner) tokens.now) }
     ensures within { Within (inner + 1) result }
 {
-    let Some((at, rest)) = mark_at(reach, b"(", tokens) else {
+    let Some((at, rest)) = mark_at(furthest, b"(", tokens) else {
         return Ok(None);
     };
-    let Some((tree, height, rest)) = closed_at(reach, b")", inner, rest)? else {
+    let Some((inner, height, rest)) = closed_at(furthest, b")", inner, rest)? else {
         return Ok(None);
     };
-    let tree = ExprTree::Parenthesised {
-        at,
-        inner: Boxed::new(reach.alloc, tree)?,
-    };
-    Ok(Some((tree, height + 1, rest)))
+    Ok(Some((ExprTree::Parenthesised { at, inner }, height + 1, rest)))
 }
 
 // `elem ( expr )`
 #[cycle(expressions)]
 #[tactic(auto, unfolding(crate::specs::Reading::conversion_at))]
 fn conversion_at<'a>(
-    reach: &mut Reach,
+    furthest: &mut Furthest,
     inner: u8,
     tokens: &'a [Token],
 ) -> Result<Option<(ExprTree, u32, &'a [Token])>, NoMemory>
     ensures read { Gives result (conversion_at (expr_at inner) tokens.now) }
     ensures within { Within (inner + 1) result }
 {
-    let Some(((at, ty), rest)) = elementary_at(reach, tokens) else {
+    let Some(((at, ty), rest)) = elementary_at(furthest, tokens) else {
         return Ok(None);
     };
-    let Some((open_at, rest)) = mark_at(reach, b"(", rest) else {
+    let Some((open_at, rest)) = mark_at(furthest, b"(", rest) else {
         return Ok(None);
     };
-    let Some((value, height, rest)) = closed_at(reach, b")", inner, rest)? else {
+    let Some((value, height, rest)) = closed_at(furthest, b")", inner, rest)? else {
         return Ok(None);
     };
     let tree = ExprTree::Conversion {
         at,
         ty,
         open_at,
-        value: Boxed::new(reach.alloc, value)?,
+        value,
     };
     Ok(Some((tree, height + 1, rest)))
 }
@@ -193,75 +194,81 @@ fn conversion_at<'a>(
 // `type ( type ) . ID`
 #[tactic(auto, unfolding(crate::specs::Reading::type_member_at))]
 fn type_member_at<'a>(
-    reach: &mut Reach,
+    furthest: &mut Furthest,
     inner: u8,
     tokens: &'a [Token],
 ) -> Result<Option<(ExprTree, u32, &'a [Token])>, NoMemory>
     ensures read { Gives result (type_member_at inner tokens.now) }
     ensures within { Within (inner + 1) result }
 {
-    let Some((at, rest)) = word_at(reach, b"type", tokens) else {
+    let Some((at, rest)) = word_at(furthest, b"type", tokens) else {
         return Ok(None);
     };
-    let Some((_, rest)) = mark_at(reach, b"(", rest) else {
+    let Some((_, rest)) = mark_at(furthest, b"(", rest) else {
         return Ok(None);
     };
-    let Some((ty, height, rest)) = type_at(reach, inner, rest)? else {
+    let Some((ty, height, rest)) = type_at(furthest, inner, rest)? else {
         return Ok(None);
     };
-    let Some((_, rest)) = mark_at(reach, b")", rest) else {
+    let ty = Boxed::new(furthest.alloc, ty)?;
+    let Some((_, rest)) = mark_at(furthest, b")", rest) else {
         return Ok(None);
     };
-    let Some((member, rest)) = member_at(reach, rest)? else {
+    let Some((member, rest)) = member_at(furthest, rest)? else {
         return Ok(None);
     };
-    Ok(Some((ExprTree::TypeMember { at, ty, member }, height + 1, rest)))
+    let tree = ExprTree::TypeMember {
+        at,
+        ty: ty.into_inner(),
+        member,
+    };
+    Ok(Some((tree, height + 1, rest)))
 }
 
 #[cycle(expressions)]
 #[tactic(auto, unfolding(crate::specs::Reading::primary_at))]
 fn primary_at<'a>(
-    reach: &mut Reach,
+    furthest: &mut Furthest,
     inner: u8,
     tokens: &'a [Token],
 ) -> Result<Option<(ExprTree, u32, &'a [Token])>, NoMemory>
     ensures read { Gives result (primary_at inner (expr_at inner) tokens.now) }
     ensures within { Within (inner + 1) result }
 {
-    if let Some(found) = atom_at(reach, tokens)? {
+    if let Some(found) = atom_at(furthest, tokens)? {
         return Ok(Some(found));
     }
-    if let Some(found) = parenthesised_at(reach, inner, tokens)? {
+    if let Some(found) = parenthesised_at(furthest, inner, tokens)? {
         return Ok(Some(found));
     }
-    if let Some(found) = conversion_at(reach, inner, tokens)? {
+    if let Some(found) = conversion_at(furthest, inner, tokens)? {
         return Ok(Some(found));
     }
-    type_member_at(reach, inner, tokens)
+    type_member_at(furthest, inner, tokens)
 }
 
 // `, expr`
 #[cycle(expressions)]
 #[tactic(auto, unfolding(crate::specs::Reading::argument_at))]
 fn argument_at<'a>(
-    reach: &mut Reach,
+    furthest: &mut Furthest,
     inner: u8,
     tokens: &'a [Token],
 ) -> Result<Option<(ExprTree, u32, &'a [Token])>, NoMemory>
     ensures read { Gives result (argument_at (expr_at inner) tokens.now) }
     ensures within { Within inner result }
 {
-    let Some((_, rest)) = mark_at(reach, b",", tokens) else {
+    let Some((_, rest)) = mark_at(furthest, b",", tokens) else {
         return Ok(None);
     };
-    expr_at(reach, inner, 10, rest)
+    expr_at(furthest, inner, 10, rest)
 }
 
 // The arguments after the first.
 #[cycle(expressions)]
 #[tactic(auto, using(crate::proofs::Loops::argument_loops))]
 fn arguments_at<'a>(
-    reach: &mut Reach,
+    furthest: &mut Furthest,
     inner: u8,
     first: Items<ExprTree>,
     first_height: u32,
@@ -275,7 +282,7 @@ fn arguments_at<'a>(
     let mut height = first_height;
     let mut rest = tokens;
     for _turn in 0..tokens.len() {
-        let Some((tree, tree_height, after)) = argument_at(reach, inner, rest)? else {
+        let Some((tree, tree_height, after)) = argument_at(furthest, inner, rest)? else {
             return Ok((so_far, height, rest));
         };
         so_far.push(tree)?;
@@ -289,36 +296,36 @@ fn arguments_at<'a>(
 #[cycle(expressions)]
 #[tactic(auto, unfolding(crate::specs::Reading::all_at))]
 pub fn all_at<'a>(
-    reach: &mut Reach,
+    furthest: &mut Furthest,
     inner: u8,
     tokens: &'a [Token],
 ) -> Result<(Items<ExprTree>, u32, &'a [Token]), NoMemory>
     ensures read { GivesOne result (all_at (expr_at inner) tokens.now) }
     ensures within { WithinOne inner result }
 {
-    let mut trees = Items::new(reach.alloc);
-    let Some((first, height, rest)) = expr_at(reach, inner, 10, tokens)? else {
+    let mut trees = Items::new(furthest.alloc);
+    let Some((first, height, rest)) = expr_at(furthest, inner, 10, tokens)? else {
         return Ok((trees, 0, tokens));
     };
     trees.push(first)?;
-    arguments_at(reach, inner, trees, height, rest)
+    arguments_at(furthest, inner, trees, height, rest)
 }
 
 // `[ expr ]`
 #[cycle(expressions)]
 #[tactic(auto, unfolding(crate::specs::Reading::index_at))]
 fn index_at<'a>(
-    reach: &mut Reach,
+    furthest: &mut Furthest,
     inner: u8,
     tokens: &'a [Token],
 ) -> Result<Option<(Suffix, u32, &'a [Token])>, NoMemory>
     ensures read { Gives result (index_at (expr_at inner) tokens.now) }
     ensures within { Within inner result }
 {
-    let Some((at, rest)) = mark_at(reach, b"[", tokens) else {
+    let Some((at, rest)) = mark_at(furthest, b"[", tokens) else {
         return Ok(None);
     };
-    let Some((index, height, rest)) = closed_at(reach, b"]", inner, rest)? else {
+    let Some((index, height, rest)) = closed_at(furthest, b"]", inner, rest)? else {
         return Ok(None);
     };
     Ok(Some((Suffix::Index { at, index }, height, rest)))
@@ -327,13 +334,13 @@ fn index_at<'a>(
 // `. ID`
 #[tactic(auto, unfolding(crate::specs::Reading::member_suffix_at))]
 fn member_suffix_at<'a>(
-    reach: &mut Reach,
+    furthest: &mut Furthest,
     tokens: &'a [Token],
 ) -> Result<Option<(Suffix, u32, &'a [Token])>, NoMemory>
     ensures read { Gives result (member_suffix_at tokens.now) }
     ensures within { Within 0 result }
 {
-    let Some((member, rest)) = member_at(reach, tokens)? else {
+    let Some((member, rest)) = member_at(furthest, tokens)? else {
         return Ok(None);
     };
     Ok(Some((Suffix::Member { member }, 0, rest)))
@@ -343,18 +350,18 @@ fn member_suffix_at<'a>(
 #[cycle(expressions)]
 #[tactic(auto, unfolding(crate::specs::Reading::call_at))]
 fn call_at<'a>(
-    reach: &mut Reach,
+    furthest: &mut Furthest,
     inner: u8,
     tokens: &'a [Token],
 ) -> Result<Option<(Suffix, u32, &'a [Token])>, NoMemory>
     ensures read { Gives result (call_at (expr_at inner) tokens.now) }
     ensures within { Within inner result }
 {
-    let Some((at, rest)) = mark_at(reach, b"(", tokens) else {
+    let Some((at, rest)) = mark_at(furthest, b"(", tokens) else {
         return Ok(None);
     };
-    let (arguments, height, rest) = all_at(reach, inner, rest)?;
-    let Some((_, rest)) = mark_at(reach, b")", rest) else {
+    let (arguments, height, rest) = all_at(furthest, inner, rest)?;
+    let Some((_, rest)) = mark_at(furthest, b")", rest) else {
         return Ok(None);
     };
     Ok(Some((Suffix::Call { at, arguments }, height, rest)))
@@ -363,27 +370,27 @@ fn call_at<'a>(
 #[cycle(expressions)]
 #[tactic(auto, unfolding(crate::specs::Reading::suffix_at))]
 fn suffix_at<'a>(
-    reach: &mut Reach,
+    furthest: &mut Furthest,
     inner: u8,
     tokens: &'a [Token],
 ) -> Result<Option<(Suffix, u32, &'a [Token])>, NoMemory>
     ensures read { Gives result (suffix_at (expr_at inner) tokens.now) }
     ensures within { Within inner result }
 {
-    if let Some(found) = index_at(reach, inner, tokens)? {
+    if let Some(found) = index_at(furthest, inner, tokens)? {
         return Ok(Some(found));
     }
-    if let Some(found) = member_suffix_at(reach, tokens)? {
+    if let Some(found) = member_suffix_at(furthest, tokens)? {
         return Ok(Some(found));
     }
-    call_at(reach, inner, tokens)
+    call_at(furthest, inner, tokens)
 }
 
 // Indices, members and calls of what was read.
 #[cycle(expressions)]
 #[tactic(auto, using(crate::proofs::Loops::loops))]
 fn suffixes_at<'a>(
-    reach: &mut Reach,
+    furthest: &mut Furthest,
     inner: u8,
     first: ExprTree,
     first_height: u32,
@@ -400,37 +407,37 @@ fn suffixes_at<'a>(
         if u32::from(inner) < height {
             return Ok((so_far, height, rest));
         }
-        let Some((suffix, suffix_height, after)) = suffix_at(reach, inner, rest)? else {
+        let Some((suffix, suffix_height, after)) = suffix_at(furthest, inner, rest)? else {
             return Ok((so_far, height, rest));
         };
-        so_far = suffixed(reach.alloc, so_far, suffix)?;
+        so_far = suffixed(furthest.alloc, so_far, suffix)?;
         height = height.max(suffix_height) + 1;
         rest = after;
     }
     Ok((so_far, height, rest))
 }
 
-// Level 1.
+// Precedence 1.
 #[cycle(expressions)]
 #[tactic(auto, unfolding(crate::specs::Reading::postfix_at))]
 fn postfix_at<'a>(
-    reach: &mut Reach,
+    furthest: &mut Furthest,
     inner: u8,
     tokens: &'a [Token],
 ) -> Result<Option<(ExprTree, u32, &'a [Token])>, NoMemory>
     ensures read { Gives result (postfix_at inner (expr_at inner) tokens.now) }
     ensures within { Within (inner + 1) result }
 {
-    let Some((first, height, rest)) = primary_at(reach, inner, tokens)? else {
+    let Some((first, height, rest)) = primary_at(furthest, inner, tokens)? else {
         return Ok(None);
     };
-    Ok(Some(suffixes_at(reach, inner, first, height, rest)?))
+    Ok(Some(suffixes_at(furthest, inner, first, height, rest)?))
 }
 
 // `! operand`
 #[cycle(expressions)]
 fn opposite_at<'a>(
-    reach: &mut Reach,
+    furthest: &mut Furthest,
     inner: u8,
     at: u32,
     tokens: &'a [Token],
@@ -438,12 +445,12 @@ fn opposite_at<'a>(
     ensures read { Gives result (opposite_at (expr_at inner) at tokens.now) }
     ensures within { Within (inner + 1) result }
 {
-    let Some((operand, height, rest)) = expr_at(reach, inner, 2, tokens)? else {
+    let Some((operand, height, rest)) = expr_at(furthest, inner, 2, tokens)? else {
         return Ok(None);
     };
     let tree = ExprTree::Not {
         at,
-        operand: Boxed::new(reach.alloc, operand)?,
+        operand: Boxed::new(furthest.alloc, operand)?,
     };
     Ok(Some((tree, height + 1, rest)))
 }
@@ -451,7 +458,7 @@ fn opposite_at<'a>(
 // `- operand`
 #[cycle(expressions)]
 fn negation_at<'a>(
-    reach: &mut Reach,
+    furthest: &mut Furthest,
     inner: u8,
     at: u32,
     tokens: &'a [Token],
@@ -459,70 +466,70 @@ fn negation_at<'a>(
     ensures read { Gives result (negation_at (expr_at inner) at tokens.now) }
     ensures within { Within (inner + 1) result }
 {
-    let Some((operand, height, rest)) = expr_at(reach, inner, 2, tokens)? else {
+    let Some((operand, height, rest)) = expr_at(furthest, inner, 2, tokens)? else {
         return Ok(None);
     };
     let tree = ExprTree::Negation {
         at,
-        operand: Boxed::new(reach.alloc, operand)?,
+        operand: Boxed::new(furthest.alloc, operand)?,
     };
     Ok(Some((tree, height + 1, rest)))
 }
 
-// Level 2.
+// Precedence 2.
 #[cycle(expressions)]
 #[tactic(auto, unfolding(crate::specs::Reading::prefix_at))]
 fn prefix_at<'a>(
-    reach: &mut Reach,
+    furthest: &mut Furthest,
     inner: u8,
     tokens: &'a [Token],
 ) -> Result<Option<(ExprTree, u32, &'a [Token])>, NoMemory>
     ensures read { Gives result (prefix_at (expr_at inner) (postfix_at inner (expr_at inner)) tokens.now) }
     ensures within { Within (inner + 1) result }
 {
-    if let Some((at, rest)) = mark_at(reach, b"!", tokens) {
-        return opposite_at(reach, inner, at, rest);
+    if let Some((at, rest)) = mark_at(furthest, b"!", tokens) {
+        return opposite_at(furthest, inner, at, rest);
     }
-    if let Some((at, rest)) = mark_at(reach, b"-", tokens) {
-        return negation_at(reach, inner, at, rest);
+    if let Some((at, rest)) = mark_at(furthest, b"-", tokens) {
+        return negation_at(furthest, inner, at, rest);
     }
-    postfix_at(reach, inner, tokens)
+    postfix_at(furthest, inner, tokens)
 }
 
-// An operator of one level, and an operand of another.
+// An operator of one precedence, and an operand of another.
 #[cycle(expressions)]
 #[tactic(auto, unfolding(crate::specs::Reading::operand_at))]
 fn operand_at<'a>(
-    reach: &mut Reach,
-    level: u32,
+    furthest: &mut Furthest,
+    precedence: u32,
     right: u32,
     inner: u8,
     tokens: &'a [Token],
 ) -> Result<Option<(Operand, u32, &'a [Token])>, NoMemory>
-    ensures read { Gives result (operand_at level right (expr_at inner) tokens.now) }
+    ensures read { Gives result (operand_at precedence right (expr_at inner) tokens.now) }
     ensures within { Within inner result }
 {
-    let Some(((at, operator), rest)) = operator_at(reach, level, tokens) else {
+    let Some(((at, operator), rest)) = operator_at(furthest, precedence, tokens) else {
         return Ok(None);
     };
-    let Some((right, height, rest)) = expr_at(reach, inner, right, rest)? else {
+    let Some((right, height, rest)) = expr_at(furthest, inner, right, rest)? else {
         return Ok(None);
     };
     let operand = Operand {
         at,
         operator,
-        right,
+        right: Boxed::new(furthest.alloc, right)?,
     };
     Ok(Some((operand, height, rest)))
 }
 
-// What was read, as the left operand of as many operators of a level as stand here, but of `most` at most. The
-// operands after them are of the level `right`.
+// What was read, as the left operand of as many operators of a precedence as stand here, but of `most` at most. The
+// operands after them are of the precedence `right`.
 #[cycle(expressions)]
 #[tactic(auto, using(crate::proofs::Loops::loops))]
 fn operands_at<'a>(
-    reach: &mut Reach,
-    level: u32,
+    furthest: &mut Furthest,
+    precedence: u32,
     right: u32,
     most: usize,
     inner: u8,
@@ -531,7 +538,7 @@ fn operands_at<'a>(
     tokens: &'a [Token],
 ) -> Result<(ExprTree, u32, &'a [Token]), NoMemory>
     requires low { first_height ≤ inner + 1 }
-    ensures read { GivesOne result (grow joined inner (operand_at level right (expr_at inner)) most first first_height tokens.now) }
+    ensures read { GivesOne result (grow joined inner (operand_at precedence right (expr_at inner)) most first first_height tokens.now) }
     ensures within { WithinOne (inner + 1) result }
 {
     let mut so_far = first;
@@ -541,11 +548,13 @@ fn operands_at<'a>(
         if u32::from(inner) < height {
             return Ok((so_far, height, rest));
         }
-        let Some((operand, operand_height, after)) = operand_at(reach, level, right, inner, rest)?
+        let Some((operand, operand_height, after)) = operand_at(
+            furthest, precedence, right, inner, rest,
+        )?
         else {
             return Ok((so_far, height, rest));
         };
-        so_far = joined(reach.alloc, so_far, operand)?;
+        so_far = joined(furthest.alloc, so_far, operand)?;
         height = height.max(operand_height) + 1;
         rest = after;
     }
@@ -556,26 +565,26 @@ fn operands_at<'a>(
 #[cycle(expressions)]
 #[tactic(auto, unfolding(crate::specs::Reading::branches_at))]
 fn branches_at<'a>(
-    reach: &mut Reach,
+    furthest: &mut Furthest,
     inner: u8,
     tokens: &'a [Token],
 ) -> Result<Option<(Branches, u32, &'a [Token])>, NoMemory>
     ensures read { Gives result (branches_at (expr_at inner) tokens.now) }
     ensures within { Within inner result }
 {
-    let Some((at, rest)) = mark_at(reach, b"?", tokens) else {
+    let Some((at, rest)) = mark_at(furthest, b"?", tokens) else {
         return Ok(None);
     };
-    let Some((chosen, chosen_height, rest)) = closed_at(reach, b":", inner, rest)? else {
+    let Some((chosen, chosen_height, rest)) = closed_at(furthest, b":", inner, rest)? else {
         return Ok(None);
     };
-    let Some((otherwise, height, rest)) = expr_at(reach, inner, 10, rest)? else {
+    let Some((otherwise, height, rest)) = expr_at(furthest, inner, 10, rest)? else {
         return Ok(None);
     };
     let branches = Branches {
         at,
         chosen,
-        otherwise,
+        otherwise: Boxed::new(furthest.alloc, otherwise)?,
     };
     Ok(Some((branches, chosen_height.max(height), rest)))
 }
@@ -584,7 +593,7 @@ fn branches_at<'a>(
 #[cycle(expressions)]
 #[tactic(auto, using(crate::proofs::Loops::choice_loops))]
 fn choice_at<'a>(
-    reach: &mut Reach,
+    furthest: &mut Furthest,
     inner: u8,
     condition: ExprTree,
     height: u32,
@@ -597,39 +606,39 @@ fn choice_at<'a>(
     if u32::from(inner) < height {
         return Ok((condition, height, tokens));
     }
-    let Some((branches, branches_height, rest)) = branches_at(reach, inner, tokens)? else {
+    let Some((branches, branches_height, rest)) = branches_at(furthest, inner, tokens)? else {
         return Ok((condition, height, tokens));
     };
-    let tree = chosen(reach.alloc, condition, branches)?;
+    let tree = chosen(furthest.alloc, condition, branches)?;
     Ok((tree, height.max(branches_height) + 1, rest))
 }
 
-// How an expression of the level below goes on at this level, from 3 to 10.
+// How an expression of the precedence below goes on at this precedence, from 3 to 10.
 #[cycle(expressions)]
 #[tactic(auto, unfolding(crate::specs::Reading::more_at))]
 fn more_at<'a>(
-    reach: &mut Reach,
-    level: u32,
+    furthest: &mut Furthest,
+    precedence: u32,
     inner: u8,
     first: ExprTree,
     height: u32,
     tokens: &'a [Token],
 ) -> Result<(ExprTree, u32, &'a [Token]), NoMemory>
-    requires some { 1 ≤ level }
+    requires some { 1 ≤ precedence }
     requires low { height ≤ inner + 1 }
-    ensures read { GivesOne result (more_at level inner (expr_at inner) first height tokens.now) }
+    ensures read { GivesOne result (more_at precedence inner (expr_at inner) first height tokens.now) }
     ensures within { WithinOne (inner + 1) result }
 {
-    if level == 3 {
-        return operands_at(reach, 3, 3, 1, inner, first, height, tokens);
+    if precedence == 3 {
+        return operands_at(furthest, 3, 3, 1, inner, first, height, tokens);
     }
-    if level == 10 {
-        return choice_at(reach, inner, first, height, tokens);
+    if precedence == 10 {
+        return choice_at(furthest, inner, first, height, tokens);
     }
     operands_at(
-        reach,
-        level,
-        level - 1,
+        furthest,
+        precedence,
+        precedence - 1,
         tokens.len(),
         inner,
         first,
@@ -638,68 +647,71 @@ fn more_at<'a>(
     )
 }
 
-// Levels 3 to 10.
+// Precedences 3 to 10.
 #[cycle(expressions)]
 fn loose_at<'a>(
-    reach: &mut Reach,
-    level: u32,
+    furthest: &mut Furthest,
+    precedence: u32,
     inner: u8,
     tokens: &'a [Token],
 ) -> Result<Option<(ExprTree, u32, &'a [Token])>, NoMemory>
-    requires { 1 ≤ level }
-    ensures read { Gives result (loose level inner (expr_at inner) (ladder inner (expr_at inner) (level - 1)) tokens.now) }
+    requires { 1 ≤ precedence }
+    ensures read { Gives result (loose precedence inner (expr_at inner) (ladder inner (expr_at inner) (precedence - 1)) tokens.now) }
     ensures within { Within (inner + 1) result }
 {
-    let Some((first, height, rest)) = rung_at(reach, level - 1, inner, tokens)? else {
+    let Some((first, height, rest)) = rung_at(furthest, precedence - 1, inner, tokens)? else {
         return Ok(None);
     };
-    Ok(Some(more_at(reach, level, inner, first, height, rest)?))
+    Ok(Some(more_at(furthest, precedence, inner, first, height, rest)?))
 }
 
-// An expression of one of the ten levels.
+// An expression of one of the ten precedences.
 #[cycle(expressions)]
 #[tactic(auto, using(crate::proofs::Loops::ladders))]
 fn rung_at<'a>(
-    reach: &mut Reach,
-    level: u32,
+    furthest: &mut Furthest,
+    precedence: u32,
     inner: u8,
     tokens: &'a [Token],
 ) -> Result<Option<(ExprTree, u32, &'a [Token])>, NoMemory>
-    ensures read { Gives result (ladder inner (expr_at inner) level tokens.now) }
+    ensures read { Gives result (ladder inner (expr_at inner) precedence tokens.now) }
     ensures within { Within (inner + 1) result }
 {
-    if level == 0 {
+    if precedence == 0 {
         return Ok(None);
     }
-    if level == 1 {
-        return postfix_at(reach, inner, tokens);
+    if precedence == 1 {
+        return postfix_at(furthest, inner, tokens);
     }
-    if level == 2 {
-        return prefix_at(reach, inner, tokens);
+    if precedence == 2 {
+        return prefix_at(furthest, inner, tokens);
     }
-    loose_at(reach, level, inner, tokens)
+    loose_at(furthest, precedence, inner, tokens)
 }
 
-/// An expression of one of the ten levels of binding, from 1 to 10, whose tree has at most so many levels: the longest
+/// An expression of one of the ten precedences, from 1 to 10, whose tree has at most so many levels: the longest
 /// that stands here.
 #[cycle(expressions)]
 #[tactic(auto, using(crate::proofs::Loops::expr_levels))]
 pub fn expr_at<'a>(
-    reach: &mut Reach,
-    levels: u8,
-    level: u32,
+    furthest: &mut Furthest,
+    levels_left: u8,
+    precedence: u32,
     tokens: &'a [Token],
 ) -> Result<Option<(ExprTree, u32, &'a [Token])>, NoMemory>
-    ensures read { Gives result (expr_at levels level tokens.now) }
-    ensures within { Within levels result }
+    ensures read { Gives result (expr_at levels_left precedence tokens.now) }
+    ensures within { Within levels_left result }
 {
-    if levels == 0 {
+    if levels_left == 0 {
         return Ok(None);
     }
-    rung_at(reach, level, levels - 1, tokens)
+    rung_at(furthest, precedence, levels_left - 1, tokens)
 }
 
-/// The longest expression that begins at the token `from` and whose tree has at most 128 levels, where its outermost
+// The first level that is too high.
+const TOO_HIGH: u32 = MAX_LEVELS as u32 + 1;
+
+/// The longest expression that begins at the token `from` and whose tree has at most `MAX_LEVELS` levels, where its outermost
 /// node has the level `level`, from 1 on; and the first token after it.
 pub fn parse_expr(
     alloc: Global,
@@ -707,16 +719,16 @@ pub fn parse_expr(
     from: u32,
     level: u32,
 ) -> Result<(ExprTree, u32), ParseFault>
-    requires few { length tokens.now ≤ 262144 }
+    requires few { length tokens.now ≤ MAX_FILE_BYTES }
     requires within { from ≤ length tokens.now }
-    requires levels { (1 ≤ level) × (level ≤ 128) }
+    requires levels_left { (1 ≤ level) × (level ≤ MAX_LEVELS) }
     ensures { Finds result tokens.now from level }
 {
-    let mut reach = Reach::new(alloc);
+    let mut furthest = Furthest::new(alloc);
     let rest = &tokens[from as usize..];
-    let Some((tree, _, after)) = expr_at(&mut reach, (129 - level) as u8, 10, rest)? else {
+    let Some((tree, _, after)) = expr_at(&mut furthest, (TOO_HIGH - level) as u8, 10, rest)? else {
         return Err(ParseFault::NoTree {
-            at: reach.place(tokens),
+            at: furthest.place(tokens),
         });
     };
     Ok((tree, (tokens.len() - after.len()) as u32))

@@ -1,11 +1,14 @@
 // What is answered where nothing is read.
 
 use chc_nums::NoMemory;
+use thiserror::Error;
 
 /// Why there is no tree. `at` is the place of the token that none begins with, or the end of the last token.
-#[derive(Clone, Copy, Debug, PartialEq, Eq)]
+#[derive(Clone, Copy, Debug, PartialEq, Eq, Error)]
 pub enum ParseFault {
+    #[error("no tree at byte {at}")]
     NoTree { at: u32 },
+    #[error("no memory")]
     NoMemory,
 }
 

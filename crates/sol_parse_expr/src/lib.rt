@@ -4,17 +4,15 @@
 
 mod expr;
 mod fault;
+mod furthest;
 mod nodes;
-mod reach;
 mod steps;
-#[cfg(test)]
-mod tests;
 mod types;
 mod uniqueness;
 
 pub use expr::{all_at, expr_at, parse_expr};
 pub use fault::ParseFault;
-pub use reach::Reach;
+pub use furthest::Furthest;
 pub use steps::{mark_at, may_name_at, name_at, word_at};
 pub use types::type_at;
 pub use uniqueness::{one_expression, one_type};

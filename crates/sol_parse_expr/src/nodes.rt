@@ -13,21 +13,21 @@ use std::alloc::Global;
 pub struct Operand {
     pub at: u32,
     pub operator: BinaryOp,
-    pub right: ExprTree,
+    pub right: Boxed<ExprTree>,
 }
 
 // `? expr : expr`, at the `?`.
 #[derive(Drop)]
 pub struct Branches {
     pub at: u32,
-    pub chosen: ExprTree,
-    pub otherwise: ExprTree,
+    pub chosen: Boxed<ExprTree>,
+    pub otherwise: Boxed<ExprTree>,
 }
 
 // `[ expr ]`, `. ID` or `( [args] )`.
 #[derive(Drop)]
 pub enum Suffix {
-    Index { at: u32, index: ExprTree },
+    Index { at: u32, index: Boxed<ExprTree> },
     Member { member: Identifier },
     Call { at: u32, arguments: Items<ExprTree> },
 }
@@ -42,7 +42,7 @@ pub fn suffixed(alloc: Global, base: ExprTree, suffix: Suffix) -> Result<ExprTre
             at,
             base,
             open_at,
-            index: Boxed::new(alloc, index)?,
+            index,
         }),
         Suffix::Member { member } => Ok(ExprTree::Member { at, base, member }),
         Suffix::Call {
@@ -66,7 +66,7 @@ pub fn joined(alloc: Global, left: ExprTree, operand: Operand) -> Result<ExprTre
         left: Boxed::new(alloc, left)?,
         operator_at: operand.at,
         operator: operand.operator,
-        right: Boxed::new(alloc, operand.right)?,
+        right: operand.right,
     })
 }
 
@@ -78,7 +78,7 @@ pub fn chosen(alloc: Global, condition: ExprTree, branches: Branches) -> Result<
         at,
         condition: Boxed::new(alloc, condition)?,
         question_at: branches.at,
-        chosen: Boxed::new(alloc, branches.chosen)?,
-        otherwise: Boxed::new(alloc, branches.otherwise)?,
+        chosen: branches.chosen,
+        otherwise: branches.otherwise,
     })
 }

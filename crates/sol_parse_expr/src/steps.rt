@@ -1,9 +1,9 @@
 // One token at the head of tokens.
 
 ghost use Rattle.std.specs.Prelude.{◌≡◌, Some};
-ghost use Rattle.sol_parse_expr.specs.Reading.{GivesRest, GivesValue, Reads, binary_of, elementary_at, is_mark, is_word, mark_at, may_name_at, may_unit_at, member_at, name_at, number_at, number_of, of_level, operator_at, type_of, unit_at, unit_of, word_at};
+ghost use Rattle.sol_parse_expr.specs.Reading.{GivesRest, GivesValue, Reads, binary_of, elementary_at, is_mark, is_word, mark_at, may_name_at, may_unit_at, member_at, name_at, number_at, number_of, of_precedence, operator_at, type_of, unit_at, unit_of, word_at};
 
-use crate::reach::Reach;
+use crate::furthest::Furthest;
 use chc_nums::{NoMemory, Ty};
 use sol_tree::{
     BinaryOp, Identifier, NumberUnit, Token, TokenKind, elementary_type, is_name, number_unit,
@@ -35,13 +35,13 @@ fn is_word(wanted: &[u8], kind: &TokenKind) -> bool
 /// A mark, as its place.
 #[tactic(auto, unfolding(crate::specs::Reading::mark_at))]
 pub fn mark_at<'a>(
-    reach: &mut Reach,
+    furthest: &mut Furthest,
     wanted: &[u8],
     tokens: &'a [Token],
 ) -> Option<(u32, &'a [Token])>
     ensures { Reads result (mark_at wanted.now tokens.now) }
 {
-    reach.note(tokens);
+    furthest.note(tokens);
     match tokens {
         [] => None,
         [first, rest @ ..] => {
@@ -57,13 +57,13 @@ pub fn mark_at<'a>(
 /// A word, as its place.
 #[tactic(auto, unfolding(crate::specs::Reading::word_at))]
 pub fn word_at<'a>(
-    reach: &mut Reach,
+    furthest: &mut Furthest,
     wanted: &[u8],
     tokens: &'a [Token],
 ) -> Option<(u32, &'a [Token])>
     ensures { Reads result (word_at wanted.now tokens.now) }
 {
-    reach.note(tokens);
+    furthest.note(tokens);
     match tokens {
         [] => None,
         [first, rest @ ..] => {
@@ -89,10 +89,13 @@ fn type_of(kind: &TokenKind) -> Option<Ty>
 
 /// An elementary type, with its place.
 #[tactic(auto, unfolding(crate::specs::Reading::elementary_at))]
-pub fn elementary_at<'a>(reach: &mut Reach, tokens: &'a [Token]) -> Option<((u32, Ty), &'a [Token])>
+pub fn elementary_at<'a>(
+    furthest: &mut Furthest,
+    tokens: &'a [Token],
+) -> Option<((u32, Ty), &'a [Token])>
     ensures { Reads result (elementary_at tokens.now) }
 {
-    reach.note(tokens);
+    furthest.note(tokens);
     match tokens {
         [] => None,
         [first, rest @ ..] => match type_of(&first.kind) {
@@ -114,10 +117,10 @@ fn unit_of(kind: &TokenKind) -> Option<NumberUnit>
 }
 
 #[tactic(auto, unfolding(crate::specs::Reading::unit_at))]
-fn unit_at<'a>(reach: &mut Reach, tokens: &'a [Token]) -> Option<(NumberUnit, &'a [Token])>
+fn unit_at<'a>(furthest: &mut Furthest, tokens: &'a [Token]) -> Option<(NumberUnit, &'a [Token])>
     ensures { Reads result (unit_at tokens.now) }
 {
-    reach.note(tokens);
+    furthest.note(tokens);
     match tokens {
         [] => None,
         [first, rest @ ..] => match unit_of(&first.kind) {
@@ -129,10 +132,13 @@ fn unit_at<'a>(reach: &mut Reach, tokens: &'a [Token]) -> Option<(NumberUnit, &'
 
 /// A unit, where one stands.
 #[tactic(auto, unfolding(crate::specs::Reading::may_unit_at))]
-pub fn may_unit_at<'a>(reach: &mut Reach, tokens: &'a [Token]) -> (Option<NumberUnit>, &'a [Token])
+pub fn may_unit_at<'a>(
+    furthest: &mut Furthest,
+    tokens: &'a [Token],
+) -> (Option<NumberUnit>, &'a [Token])
     ensures { may_unit_at tokens.now ≡ Some (result.0, result.1.now) }
 {
-    match unit_at(reach, tokens) {
+    match unit_at(furthest, tokens) {
         None => (None, tokens),
         Some((unit, rest)) => (Some(unit), rest),
     }
@@ -149,13 +155,13 @@ fn binary_of(kind: &TokenKind) -> Option<BinaryOp>
     }
 }
 
-fn of_level(level: u32, operator: Option<BinaryOp>) -> Option<BinaryOp>
-    ensures { result ≡ of_level level operator }
+fn of_precedence(precedence: u32, operator: Option<BinaryOp>) -> Option<BinaryOp>
+    ensures { result ≡ of_precedence precedence operator }
 {
     match operator {
         None => None,
         Some(operator) => {
-            if operator.precedence() == level {
+            if operator.precedence() == precedence {
                 Some(operator)
             } else {
                 None
@@ -164,19 +170,19 @@ fn of_level(level: u32, operator: Option<BinaryOp>) -> Option<BinaryOp>
     }
 }
 
-/// An operator of this level between two operands, with its place.
+/// An operator of this precedence between two operands, with its place.
 #[tactic(auto, unfolding(crate::specs::Reading::operator_at))]
 pub fn operator_at<'a>(
-    reach: &mut Reach,
-    level: u32,
+    furthest: &mut Furthest,
+    precedence: u32,
     tokens: &'a [Token],
 ) -> Option<((u32, BinaryOp), &'a [Token])>
-    ensures { Reads result (operator_at level tokens.now) }
+    ensures { Reads result (operator_at precedence tokens.now) }
 {
-    reach.note(tokens);
+    furthest.note(tokens);
     match tokens {
         [] => None,
-        [first, rest @ ..] => match of_level(level, binary_of(&first.kind)) {
+        [first, rest @ ..] => match of_precedence(precedence, binary_of(&first.kind)) {
             None => None,
             Some(operator) => Some(((first.at, operator), rest)),
         },
@@ -197,12 +203,12 @@ fn number_of(kind: &TokenKind) -> Option<(i128, bool)>
 /// A number, with its place and whether it is hexadecimal.
 #[tactic(auto, unfolding(crate::specs::Reading::number_at))]
 pub fn number_at<'a>(
-    reach: &mut Reach,
+    furthest: &mut Furthest,
     tokens: &'a [Token],
 ) -> Option<((u32, (i128, bool)), &'a [Token])>
     ensures { Reads result (number_at tokens.now) }
 {
-    reach.note(tokens);
+    furthest.note(tokens);
     match tokens {
         [] => None,
         [first, rest @ ..] => match number_of(&first.kind) {
@@ -215,18 +221,18 @@ pub fn number_at<'a>(
 /// A name.
 #[tactic(auto, unfolding(crate::specs::Reading::name_at))]
 pub fn name_at<'a>(
-    reach: &mut Reach,
+    furthest: &mut Furthest,
     tokens: &'a [Token],
 ) -> Result<Option<(Identifier, &'a [Token])>, NoMemory>
     ensures { GivesValue result (name_at tokens.now) }
 {
-    reach.note(tokens);
+    furthest.note(tokens);
     match tokens {
         [] => Ok(None),
         [first, rest @ ..] => match &first.kind {
             TokenKind::Word(word) => {
                 if is_name(word.as_str().as_bytes()) {
-                    let name = word.copy(reach.alloc)?;
+                    let name = word.copy(furthest.alloc)?;
                     Ok(Some((Identifier { at: first.at, name }, rest)))
                 } else {
                     Ok(None)
@@ -242,12 +248,12 @@ pub fn name_at<'a>(
 /// A name, where one stands.
 #[tactic(auto, unfolding(crate::specs::Reading::may_name_at))]
 pub fn may_name_at<'a>(
-    reach: &mut Reach,
+    furthest: &mut Furthest,
     tokens: &'a [Token],
 ) -> Result<(Option<Identifier>, &'a [Token]), NoMemory>
     ensures { GivesRest result (may_name_at tokens.now) }
 {
-    match name_at(reach, tokens)? {
+    match name_at(furthest, tokens)? {
         None => Ok((None, tokens)),
         Some((name, rest)) => Ok((Some(name), rest)),
     }
@@ -256,13 +262,13 @@ pub fn may_name_at<'a>(
 /// `. ID`
 #[tactic(auto, unfolding(crate::specs::Reading::member_at))]
 pub fn member_at<'a>(
-    reach: &mut Reach,
+    furthest: &mut Furthest,
     tokens: &'a [Token],
 ) -> Result<Option<(Identifier, &'a [Token])>, NoMemory>
     ensures { GivesValue result (member_at tokens.now) }
 {
-    match mark_at(reach, b".", tokens) {
+    match mark_at(furthest, b".", tokens) {
         None => Ok(None),
-        Some((_, rest)) => name_at(reach, rest),
+        Some((_, rest)) => name_at(furthest, rest),
     }
 }

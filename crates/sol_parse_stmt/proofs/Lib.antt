@@ -1,5 +1,4 @@
 pub mod Compound
-pub mod First
 pub mod Heads
 pub mod Heights
 pub mod Laws

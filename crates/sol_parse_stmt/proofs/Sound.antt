@@ -25,7 +25,7 @@ use Rattle.sol_parse_expr.proofs.SoundExprs.{Reads, ReadAll, sound-expr, sound-a
 use Rattle.sol_parse_stmt.specs.Grammar.{assign_mark, step_mark, MayInitial, without, initial, SpellsSimple, declaration, assignment, step_after, step_before, deletion, expression, MaySimple, MayExpr, text_of, MayText, given, MayReason, SpellsArguments, listed}
 use Rattle.sol_parse_stmt.specs.Grammar as grammar
 use Rattle.sol_parse_stmt.specs.Heights.{may_height, initial_height, arguments_height, simple_height, may_simple_height}
-use Rattle.sol_parse_stmt.specs.Reading.{is_text, text_at, may_text_at, reason_at, may_reason_at, assign_at, step_at, initial_at, may_initial_at, declaration_at, assigned_at, after_at, led_at, step_before_at, delete_at, simple_at, may_simple_at, may_expr_at, condition_at, arguments_at, sent_at, head_at}
+use Rattle.sol_parse_stmt.specs.Reading.{is_text, text_at, may_text_at, reason_at, may_reason_at, assign_at, step_at, initial_at, may_initial_at, declaration_at, assigned_at, after_at, led_at, step_before_at, delete_at, simple_at, may_simple_at, may_expr_at, condition_at, arguments_at, sent_at, head_at, declared_at, head_condition_at, head_step_at, initialised_at}
 use Rattle.sol_parse_stmt.specs.declared.parts.Head.{Head}
 use Rattle.sol_parse_stmt.specs.declared.parts.Sent.{Sent}
 
@@ -147,7 +147,7 @@ abbrev pub ReadSimple : ℕ → Simple → List Token → ℕ → Type 0
 ReadSimple d = Read simple_height SpellsSimple d
 
 sound-declaration : (d : ℕ) (ts : List Token) → Holds (Front (ReadSimple d)) ts (declaration_at d ts)
-unfolding declaration_at
+unfolding declaration_at declared_at initialised_at
 sound-declaration d ts =
     after-tree (type_at d ts) _ (Front (ReadSimple d)) (Read type_height SpellsType d) ts (sound-type d ts) (λ t h us t1 r.
     after-name t1 _ (λ x. Front (ReadSimple d) (us ++ x)) (λ m n t2 im.
@@ -306,7 +306,7 @@ pub record ReadHead (d : ℕ) (p : Head) (us : List Token) (h : ℕ) : Type 0 wh
   pub all : us ≡ opening ∷ (starts ++ (first ∷ (conditions ++ (second ∷ (steps ++ (closing ∷ []))))))
 
 pub sound-head : (d : ℕ) (ts : List Token) → Holds (Front (ReadHead d)) ts (head_at d ts)
-unfolding head_at
+unfolding head_at head_condition_at head_step_at
 sound-head d ts =
     after-mark (codes "(") ts _ (Front (ReadHead d)) (λ o t1 io.
     after-tree (may_simple_at d t1) _ (λ x. Front (ReadHead d) (o ∷ x)) (ReadMaySimple d) t1 (sound-may_simple d t1) (λ a h1 us t2 r1.

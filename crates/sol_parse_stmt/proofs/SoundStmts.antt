@@ -11,7 +11,7 @@ use Rattle.sol_parse_expr.proofs.After.{Holds, Front, Read, after-tree, either-t
 use Rattle.sol_parse_expr.proofs.Tokens.{word-or}
 use Rattle.sol_parse_stmt.specs.Grammar.{ends_open, SpellsStmt, block, unchecked, if_alone, if_else, while_loop, do_loop, for_loop, SpellsStmts, ended, another, SpellsBlock, body}
 use Rattle.sol_parse_stmt.specs.Heights.{stmt_height, block_height, may_simple_height, may_height}
-use Rattle.sol_parse_stmt.specs.Reading.{condition_at, head_at, statements_at, braces_at, braced_at, unchecked_at, may_else_at, if_at, while_at, do_at, for_at, compound_at, leaf_at, stmt_at, block_at}
+use Rattle.sol_parse_stmt.specs.Reading.{condition_at, head_at, statements_at, braces_at, braced_at, unchecked_at, may_else_at, if_at, while_at, do_at, for_at, compound_at, leaf_at, stmt_at, block_at, chosen_at, headed_at, otherwise_at, repeated_at, until_at}
 use Rattle.sol_parse_stmt.proofs.Heights.{height-block, height-unchecked, height-if_alone, height-if_else, height-while, height-do, height-for}
 use Rattle.sol_parse_stmt.proofs.Open.{open-block, open-unchecked, open-if_else, open-while, open-do, open-for}
 use Rattle.sol_parse_stmt.proofs.Sound.{ReadCondition, ReadHead, sound-condition, sound-head}
@@ -122,7 +122,7 @@ closed-before s false rest x e q h = e
 closed-before s true rest x e q h = absurd (cc (q e, h))
 
 sound-if : (d : ℕ) (inner : Measured stmt.Stmt) → StmtsSound d inner → (ts : List Token) → Holds (Whole (suc d)) ts (if_at d inner ts)
-unfolding if_at may_else_at
+unfolding if_at chosen_at otherwise_at may_else_at
 sound-if d inner s ts =
     after-word (codes "if") ts _ (Whole (suc d)) (λ w t1 iw.
     after-tree (condition_at d t1) _ (λ x. Whole (suc d) (w ∷ x)) (ReadCondition d) t1 (sound-condition d t1) (λ e h1 us t2 r1.
@@ -156,7 +156,7 @@ sound-if d inner s ts =
     ])))
 
 sound-while : (d : ℕ) (inner : Measured stmt.Stmt) → StmtsSound d inner → (ts : List Token) → Holds (Whole (suc d)) ts (while_at d inner ts)
-unfolding while_at
+unfolding while_at repeated_at
 sound-while d inner s ts =
     after-word (codes "while") ts _ (Whole (suc d)) (λ w t1 iw.
     after-tree (condition_at d t1) _ (λ x. Whole (suc d) (w ∷ x)) (ReadCondition d) t1 (sound-condition d t1) (λ e h1 us t2 r1.
@@ -172,7 +172,7 @@ sound-while d inner s ts =
     ))))
 
 sound-do : (d : ℕ) (inner : Measured stmt.Stmt) → StmtsSound d inner → (ts : List Token) → Holds (Whole (suc d)) ts (do_at d inner ts)
-unfolding do_at
+unfolding do_at until_at
 sound-do d inner s ts =
     after-word (codes "do") ts _ (Whole (suc d)) (λ w t1 iw.
     after-stmt d (inner t1) _ (λ x. Whole (suc d) (w ∷ x)) t1 (s t1) (λ c h1 us t2 r1 q1.
@@ -193,7 +193,7 @@ for-height : (a b c x h n : ℕ) → max a (max b c) ≡ h → x ≡ n → max a
 for-height a b c x h n e f = omega arith
 
 sound-for : (d : ℕ) (inner : Measured stmt.Stmt) → StmtsSound d inner → (ts : List Token) → Holds (Whole (suc d)) ts (for_at d inner ts)
-unfolding for_at
+unfolding for_at headed_at
 sound-for d inner s ts =
     after-word (codes "for") ts _ (Whole (suc d)) (λ w t1 iw.
     after-tree (head_at d t1) _ (λ x. Whole (suc d) (w ∷ x)) (ReadHead d) t1 (sound-head d t1) (λ p h1 us t2 r1.

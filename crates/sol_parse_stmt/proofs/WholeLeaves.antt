@@ -16,8 +16,9 @@ use Rattle.sol_parse_stmt.specs.Grammar.{simple_place, SpellsSimple, MayExpr, Ma
 use Rattle.sol_parse_stmt.specs.Heights.{may_height, arguments_height, simple_height, stmt_height}
 use Rattle.sol_parse_stmt.specs.Reading.{sent_at, plain_at, alone_at, jump_at, return_at, emit_at, revert_with_at, revert_at, require_at, assert_at, leaf_at, braces_at, braced_at, unchecked_at, if_at, while_at, do_at, for_at, compound_at, stmt_at}
 use Rattle.sol_parse_stmt.proofs.Heights.{height-simple, height-break, height-continue, height-return, height-placeholder, height-emit, height-revert_with, height-revert, height-require, height-assert}
-use Rattle.sol_parse_stmt.proofs.First.{WordFirst, MarkFirst, word-word, mark-word, name-mark, foreign-if, foreign-while, foreign-do, foreign-for, foreign-break, foreign-continue, foreign-return, foreign-placeholder, foreign-emit, foreign-revert, foreign-require, foreign-assert, foreign-unchecked}
-use Rattle.sol_parse_stmt.proofs.WholeParts.{whole-simple, may_expr-all, condition-all, may_text-all, may_reason-all, reason-ends, sent-all, simple-word, simple-no_brace}
+use Rattle.sol_parse_expr.proofs.First.{WordFirst, MarkFirst, word-word, mark-word, name-mark}
+use Rattle.sol_parse_stmt.proofs.Heads.{simple-word, simple-no_brace}
+use Rattle.sol_parse_stmt.proofs.WholeParts.{whole-simple, may_expr-all, condition-all, may_text-all, may_reason-all, reason-ends, sent-all}
 
 -- ---- what begins no such statement
 
@@ -184,9 +185,9 @@ unfolding stmt_at leaf_at plain_at
 plain-stands d x us p low n in_ rest =
     let t1 : List Token = n ∷ rest in
     let ts : List Token = us ++ t1 in
-    let compound = compound-none d (stmt_at d) ts (simple-no_brace x us p t1) (simple-word (codes "unchecked") foreign-unchecked refl x us p t1) (simple-word (codes "if") foreign-if refl x us p t1) (simple-word (codes "while") foreign-while refl x us p t1) (simple-word (codes "do") foreign-do refl x us p t1) (simple-word (codes "for") foreign-for refl x us p t1) in
-    let jump = jump-none ts (simple-word (codes "break") foreign-break refl x us p t1) (simple-word (codes "continue") foreign-continue refl x us p t1) (simple-word (codes "_") foreign-placeholder refl x us p t1) in
-    rw (height-simple) (rw (compound, jump, return-none d ts (simple-word (codes "return") foreign-return refl x us p t1), emit-none d ts (simple-word (codes "emit") foreign-emit refl x us p t1), revert_with-none d ts (simple-word (codes "revert") foreign-revert refl x us p t1), revert-none ts (simple-word (codes "revert") foreign-revert refl x us p t1), require-none d ts (simple-word (codes "require") foreign-require refl x us p t1), assert-none d ts (simple-word (codes "assert") foreign-assert refl x us p t1), whole-simple d x us p low t1 (inl (n, rest, in_, refl)), mark-here (codes ";") n rest in_) refl)
+    let compound = compound-none d (stmt_at d) ts (simple-no_brace x us p t1) (simple-word (codes "unchecked") refl x us p t1) (simple-word (codes "if") refl x us p t1) (simple-word (codes "while") refl x us p t1) (simple-word (codes "do") refl x us p t1) (simple-word (codes "for") refl x us p t1) in
+    let jump = jump-none ts (simple-word (codes "break") refl x us p t1) (simple-word (codes "continue") refl x us p t1) (simple-word (codes "_") refl x us p t1) in
+    rw (height-simple) (rw (compound, jump, return-none d ts (simple-word (codes "return") refl x us p t1), emit-none d ts (simple-word (codes "emit") refl x us p t1), revert_with-none d ts (simple-word (codes "revert") refl x us p t1), revert-none ts (simple-word (codes "revert") refl x us p t1), require-none d ts (simple-word (codes "require") refl x us p t1), assert-none d ts (simple-word (codes "assert") refl x us p t1), whole-simple d x us p low t1 (inl (n, rest, in_, refl)), mark-here (codes ";") n rest in_) refl)
 
 -- ---- each of them as the grammar has it
 

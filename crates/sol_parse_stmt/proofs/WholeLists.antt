@@ -11,7 +11,8 @@ use Rattle.sol_parse_expr.proofs.Read.{read}
 use Rattle.sol_parse_stmt.specs.Grammar.{SpellsStmt, SpellsStmts, ended, another}
 use Rattle.sol_parse_stmt.specs.Heights.{stmt_height}
 use Rattle.sol_parse_stmt.specs.Reading.{statements_at, stmt_at}
-use Rattle.sol_parse_stmt.proofs.Heads.{leads, first, first-here, first-some, no-word, stmt-leads}
+use Rattle.sol_parse_expr.proofs.First.{first, first-some, first-no_word}
+use Rattle.sol_parse_stmt.proofs.Heads.{leads, stmt-leads}
 use Rattle.sol_parse_stmt.proofs.Loops.{statements-stop, statements-turn}
 use Rattle.sol_parse_stmt.proofs.SoundStmts.{Whole, sound-stmt}
 
@@ -38,7 +39,7 @@ no-stmt d ts q = elim (optional (stmt_at d ts)) [
 
 pub no-else : {ss : List stmt.Stmt} {us : List Token} → SpellsStmts ss us → (c : Token) (rest : List Token) → IsMark (codes "}") c → word_at (codes "else") (us ++ (c ∷ rest)) ≡ None
 no-else ended c rest i = word-not (codes "else") (kind.Mark (codes "}")) c rest i refl
-no-else (another {s} {ss} {ts} {us} x xs) c rest i = rw (append_assoc ts) (no-word leads (codes "else") _ else_leads (stmt-leads x _))
+no-else (another {s} {ss} {ts} {us} x xs) c rest i = rw (append_assoc ts) (first-no_word leads (codes "else") _ else_leads (stmt-leads x _))
 
 pub some-token : {s : stmt.Stmt} {us : List Token} → SpellsStmt s us → 0 < length us
 some-token {s} {us} x = first-some leads us (subst (λ (w : List Token). first leads w ≡ true) (append-nil us) (stmt-leads x []))

@@ -22,22 +22,16 @@ use Rattle.sol_parse_expr.specs.Reading.{then_tree, mark_at, word_at, name_at, t
 use Rattle.sol_parse_expr.proofs.Tokens.{mark-here, word-here, name-here, name-not}
 use Rattle.sol_parse_expr.proofs.Binding.{ends-mark, no_more-semicolon, no_more-call_end, no_more-comma}
 use Rattle.sol_parse_expr.proofs.Laws.{type-all, expr-read, expr-all, args-all}
-use Rattle.sol_parse_expr.proofs.Heads.{begins_word, begins_mark, head, headed-word, headed-mark, no-declaration as expression-no_declaration, type-head, type-headed-mark}
+use Rattle.sol_parse_expr.proofs.First.{WordFirst, NameFirst, MarkFirst, word-mark, mark-word, mark-name, mark-mark, name-mark, brackets-none, begins, begins_mark, begins-not, first-no_mark, first-no_word, expr-begins, no-declaration as expression-no_declaration, type-mark, type-keyword}
+use Rattle.sol_parse_expr.proofs.Keywords.{keyword}
 use Rattle.sol_parse_stmt.specs.declared.parts.Head.{Head}
 use Rattle.sol_parse_stmt.specs.declared.parts.Sent.{Sent}
 use Rattle.sol_parse_stmt.specs.Grammar.{assign_mark, step_mark, MayInitial, SpellsSimple, MaySimple, MayExpr, text_of, MayText, MayReason, SpellsArguments}
 use Rattle.sol_parse_stmt.specs.Heights.{may_height, initial_height, arguments_height, simple_height, may_simple_height}
-use Rattle.sol_parse_stmt.specs.Reading.{text_at, may_text_at, reason_at, may_reason_at, assign_at, step_at, initial_at, may_initial_at, declaration_at, assigned_at, after_at, led_at, step_before_at, delete_at, simple_at, may_simple_at, may_expr_at, condition_at, arguments_at, sent_at, head_at}
-use Rattle.sol_parse_stmt.proofs.First.{WordFirst, NameFirst, MarkFirst, word-word, word-name, word-mark, mark-word, mark-name, mark-mark, name-word, name-mark, brackets-none, type-mark, word-type, expr_words, Foreign, foreign-delete, type-foreign}
-
-foreign-begins : (w : List ℕ) → Foreign w → begins_word w ≡ false
-foreign-begins w f = rw (f.no_name, f.no_type, f.no_head) refl
-
-head-word : (w : List ℕ) → Foreign w → (e : tree.ExprTree) (us : List Token) → Spells 10 e us → (rest : List Token) → word_at w (us ++ rest) ≡ None
-head-word w f e us p rest = headed-word us (head p) w (foreign-begins w f) rest
+use Rattle.sol_parse_stmt.specs.Reading.{text_at, may_text_at, reason_at, may_reason_at, assign_at, step_at, initial_at, may_initial_at, declaration_at, assigned_at, after_at, led_at, step_before_at, delete_at, simple_at, may_simple_at, may_expr_at, condition_at, arguments_at, sent_at, head_at, declared_at, head_condition_at, head_step_at, initialised_at}
 
 head-mark : (m : List ℕ) → begins_mark m ≡ false → (e : tree.ExprTree) (us : List Token) → Spells 10 e us → (rest : List Token) → mark_at m (us ++ rest) ≡ None
-head-mark m q e us p rest = headed-mark us (head p) m q rest
+head-mark m q e us p rest = first-no_mark begins m (us ++ rest) q (expr-begins p rest)
 
 -- `;` or `)` follows
 abbrev pub Closed : List Token → Type 0
@@ -127,7 +121,7 @@ then-none None go f = refl
 then-none (Some x) go f = f x.0 x.1 x.2 refl
 
 no-declaration : (d : ℕ) (e : tree.ExprTree) (us : List Token) → Spells 10 e us → (rest : List Token) → Ends rest → name_at rest ≡ None → declaration_at d (us ++ rest) ≡ None
-unfolding declaration_at
+unfolding declaration_at declared_at
 no-declaration d e us p rest s n = then-none (type_at d (us ++ rest)) _ (λ t h more q. rw (expression-no_declaration p d rest s n t h more q) refl)
 
 no-type : (d : ℕ) (ts : List Token) → type_at d ts ≡ None → declaration_at d ts ≡ None
@@ -147,11 +141,11 @@ led : (d : ℕ) (e : tree.ExprTree) (us : List Token) → Spells 10 e us → hei
 unfolding simple_at led_at
 led d e us p low rest s n =
     let steps = no-step d (us ++ rest) (step-none (us ++ rest) (head-mark (codes "++") refl e us p rest) (head-mark (codes "--") refl e us p rest)) in
-    let deletes = no-delete d (us ++ rest) (head-word (codes "delete") foreign-delete e us p rest) in
+    let deletes = no-delete d (us ++ rest) (first-no_word begins (codes "delete") (us ++ rest) (begins-not (codes "delete") refl (keyword (codes "delete") refl)) (expr-begins p rest)) in
     rw (no-declaration d e us p rest s n, steps, deletes, expr-all p d low rest s) refl
 
 pub whole-simple : (d : ℕ) (x : Simple) (us : List Token) → SpellsSimple x us → simple_height x ≤ d → (rest : List Token) → Closed rest → simple_at d (us ++ rest) ≡ Some (x, simple_height x, rest)
-unfolding simple_at declaration_at step_before_at delete_at after_at assigned_at
+unfolding simple_at declaration_at declared_at initialised_at step_before_at delete_at after_at assigned_at
 whole-simple d x us (SpellsSimple.declaration {ty} {n} {i} m {ts} {us = ws} p im q) low rest c =
     let t2 : List Token = ws ++ rest in
     let named : NameFirst (m ∷ t2) = (m, n, t2, im, refl) in
@@ -172,7 +166,7 @@ whole-simple d x us (SpellsSimple.step_before {a} {o} t {ts} io p) low rest c =
 whole-simple d x us (SpellsSimple.deletion {a} w {ts} iw p) low rest c =
     let t1 : List Token = ts ++ rest in
     let first : WordFirst (codes "delete") (w ∷ t1) = (w, t1, iw, refl) in
-    rw (type-foreign d (codes "delete") (w ∷ t1) foreign-delete first, step-none (w ∷ t1) (mark-word (codes "++") (codes "delete") (w ∷ t1) first) (mark-word (codes "--") (codes "delete") (w ∷ t1) first), word-here (codes "delete") w t1 iw, expr-all p d low rest (closed-ends rest c)) refl
+    rw (type-keyword d (codes "delete") (w ∷ t1) refl (keyword (codes "delete") refl) first, step-none (w ∷ t1) (mark-word (codes "++") (codes "delete") (w ∷ t1) first) (mark-word (codes "--") (codes "delete") (w ∷ t1) first), word-here (codes "delete") w t1 iw, expr-all p d low rest (closed-ends rest c)) refl
 whole-simple d x us (SpellsSimple.expression {a} {ts} p) low rest c =
     let start = led d a us p low rest (closed-ends rest c) (closed-name rest c) in
     start ∙ rw (closed-assign rest c, closed-step rest c) refl
@@ -221,7 +215,7 @@ unfolding condition_at
 condition-all o c {ts} io p ic d low rest = rw (mark-here (codes "(") o (ts ++ (c ∷ rest)) io, expr-all p d low (c ∷ rest) (first-ends (codes ")") (c ∷ rest) no_more-call_end (c, rest, ic, refl)), mark-here (codes ")") c rest ic) refl
 
 pub head-all : {a b : Option Simple} {e : Option tree.ExprTree} (o m n c : Token) {fs es gs : List Token} → IsMark (codes "(") o → MaySimple a fs → IsMark (codes ";") m → MayExpr e es → IsMark (codes ";") n → MaySimple b gs → IsMark (codes ")") c → (d : ℕ) → may_simple_height a ≤ d → may_height e ≤ d → may_simple_height b ≤ d → (rest : List Token) → head_at d (o ∷ (fs ++ (m ∷ (es ++ (n ∷ (gs ++ (c ∷ rest))))))) ≡ Some (record { start = a; condition = e; step = b }, max (may_simple_height a) (max (may_height e) (may_simple_height b)), rest)
-unfolding head_at
+unfolding head_at head_condition_at head_step_at
 head-all {a} {b} {e} o m n c {fs} {es} {gs} io pa im pe in_ pb ic d la le lb rest =
     let t6 : List Token = c ∷ rest in
     let t4 : List Token = n ∷ (gs ++ t6) in
@@ -259,25 +253,3 @@ reason-ends x us (MayReason.given m t im h) c rest ic = first-ends (codes ",") (
 pub sent-all : (d : ℕ) (i : List ℕ) (a : Arguments) (m n : Token) (us : List Token) → IsName i m → SpellsArguments a us → IsMark (codes ";") n → arguments_height a ≤ d → (rest : List Token) → sent_at d (m ∷ (us ++ (n ∷ rest))) ≡ Some (record { name = named_by i m; arguments = a }, arguments_height a, rest)
 unfolding sent_at
 sent-all d i a m n us im p in_ low rest = rw (name-here i m (us ++ (n ∷ rest)) im, whole-arguments d a us p low (n ∷ rest), mark-here (codes ";") n rest in_) refl
-
--- ---- how simple statements begin
-
-pub simple-word : (w : List ℕ) → Foreign w → bytes_eq (codes "delete") w ≡ false → (x : Simple) (us : List Token) → SpellsSimple x us → (rest : List Token) → word_at w (us ++ rest) ≡ None
-simple-word w f q x us (SpellsSimple.declaration {ty} m {ts} {us = ws} p im i) rest = rw append_assoc (word-type w f.no_type f.no_name f.no_mapping p (m ∷ (ws ++ rest)))
-simple-word w f q x us (SpellsSimple.assignment {a} t {ts} {us = ws} p io r) rest = rw append_assoc (head-word w f a ts p (t ∷ (ws ++ rest)))
-simple-word w f q x us (SpellsSimple.step_after {a} t {ts} p io) rest = rw append_assoc (head-word w f a ts p (t ∷ rest))
-simple-word w f q x us (SpellsSimple.step_before {o = o} t {ts} io p) rest = word-mark w (step_mark o) (t ∷ (ts ++ rest)) (t, ts ++ rest, io, refl)
-simple-word w f q x us (SpellsSimple.deletion v {ts} iv p) rest = word-word w (codes "delete") (v ∷ (ts ++ rest)) q (v, ts ++ rest, iv, refl)
-simple-word w f q x us (SpellsSimple.expression {a} p) rest = head-word w f a us p rest
-
-step-no_brace : (o : StepOp) (ts : List Token) → MarkFirst (step_mark o) ts → mark_at (codes "{") ts ≡ None
-step-no_brace step.Increment ts f = mark-mark (codes "{") (codes "++") ts refl f
-step-no_brace step.Decrement ts f = mark-mark (codes "{") (codes "--") ts refl f
-
-pub simple-no_brace : (x : Simple) (us : List Token) → SpellsSimple x us → (rest : List Token) → mark_at (codes "{") (us ++ rest) ≡ None
-simple-no_brace x us (SpellsSimple.declaration {ty} m {ts} {us = ws} p im i) rest = rw append_assoc (type-headed-mark ts (type-head p) (codes "{") (m ∷ (ws ++ rest)))
-simple-no_brace x us (SpellsSimple.assignment {a} t {ts} {us = ws} p io r) rest = rw append_assoc (head-mark (codes "{") refl a ts p (t ∷ (ws ++ rest)))
-simple-no_brace x us (SpellsSimple.step_after {a} t {ts} p io) rest = rw append_assoc (head-mark (codes "{") refl a ts p (t ∷ rest))
-simple-no_brace x us (SpellsSimple.step_before {o = o} t {ts} io p) rest = step-no_brace o (t ∷ (ts ++ rest)) (t, ts ++ rest, io, refl)
-simple-no_brace x us (SpellsSimple.deletion v {ts} iv p) rest = mark-word (codes "{") (codes "delete") (v ∷ (ts ++ rest)) (v, ts ++ rest, iv, refl)
-simple-no_brace x us (SpellsSimple.expression {a} p) rest = head-mark (codes "{") refl a us p rest

@@ -16,7 +16,8 @@ use Rattle.sol_parse_stmt.specs.Heights.{stmt_height, block_height, may_simple_h
 use Rattle.sol_parse_stmt.specs.Reading.{statements_at, braces_at, stmt_at, block_at}
 use Rattle.sol_parse_stmt.proofs.Heights.{height-block, height-unchecked, height-simple, height-if_alone, height-if_else, height-while, height-do, height-for, height-break, height-continue, height-return, height-placeholder, height-emit, height-revert_with, height-revert, height-require, height-assert}
 use Rattle.sol_parse_stmt.proofs.Open.{open-if_alone, open-if_else, open-while, open-for}
-use Rattle.sol_parse_stmt.proofs.Heads.{leads, first-here}
+use Rattle.sol_parse_expr.proofs.First.{first-here}
+use Rattle.sol_parse_stmt.proofs.Heads.{leads}
 use Rattle.sol_parse_stmt.proofs.Loops.{statements-stop}
 use Rattle.sol_parse_stmt.proofs.SoundStmts.{Settled}
 use Rattle.sol_parse_stmt.proofs.Compound.{from-compound, braces-here, block-here, unchecked-here, if-alone-here, if-else-here, while-here, do-here, for-here}

@@ -3,6 +3,8 @@ use Rattle.std.specs.Prelude.{◌≡◌, ℕ, zero, suc, ◌+◌, max, List, [],
 use Rattle.sol_tree.specs.declared.token.Token.{Token}
 use Rattle.sol_tree.specs.declared.token.TokenKind.{TokenKind}
 use Rattle.sol_tree.specs.declared.token.TokenKind.TheVariants as kind
+use Rattle.sol_tree.specs.declared.types.Identifier.{Identifier}
+use Rattle.sol_tree.specs.declared.types.Type as type_tree
 use Rattle.sol_tree.specs.declared.expr.ExprTree as tree
 use Rattle.sol_tree.specs.declared.expr.Arguments.{Arguments}
 use Rattle.sol_tree.specs.declared.expr.Initial.{Initial}
@@ -72,13 +74,19 @@ initial_at d ts =
 unfoldable pub may_initial_at : ℕ → Measured (Option Initial)
 may_initial_at d ts = if_tree (initial_at d ts) (λ i h rest. Some (Some i, h, rest)) (Some (None, 0, ts))
 
+-- `[= expr]` after a type and a name
+unfoldable pub initialised_at : ℕ → type_tree.Type → Identifier → ℕ → Measured Simple
+initialised_at d t i h ts =
+    then_tree (may_initial_at d ts) (λ v n rest.
+    Some (simple.Declaration (type_place_of t) t i v, max h n, rest))
+
+-- `ID [= expr]` after a type
+unfoldable pub declared_at : ℕ → type_tree.Type → ℕ → Measured Simple
+declared_at d t h ts = then_value (name_at ts) (λ i us. initialised_at d t i h us)
+
 -- `type ID [= expr]`
 unfoldable pub declaration_at : ℕ → Measured Simple
-declaration_at d ts =
-    then_tree (type_at d ts) (λ t h t1.
-    then_value (name_at t1) (λ i t2.
-    then_tree (may_initial_at d t2) (λ v n rest.
-    Some (simple.Declaration (type_place_of t) t i v, max h n, rest))))
+declaration_at d ts = then_tree (type_at d ts) (λ t h us. declared_at d t h us)
 
 -- `expr` after an operator that assigns
 unfoldable pub assigned_at : ℕ → tree.ExprTree → ℕ → ℕ → AssignOp → Measured Simple
@@ -149,17 +157,27 @@ sent_at d ts =
     then_value (mark_at (codes ";") t2) (λ p rest.
     Some (record { name = i; arguments = a }, h, rest))))
 
+-- `[simple] )`, the last part of the head of a `for`
+unfoldable pub head_step_at : ℕ → Option Simple → Option tree.ExprTree → ℕ → ℕ → Measured Head
+head_step_at d a e h1 h2 ts =
+    then_tree (may_simple_at d ts) (λ b h3 us.
+    then_value (mark_at (codes ")") us) (λ p rest.
+    Some (record { start = a; condition = e; step = b }, max h1 (max h2 h3), rest)))
+
+-- `[expr] ; [simple] )`
+unfoldable pub head_condition_at : ℕ → Option Simple → ℕ → Measured Head
+head_condition_at d a h1 ts =
+    then_tree (may_expr_at d ts) (λ e h2 us.
+    then_value (mark_at (codes ";") us) (λ p vs.
+    head_step_at d a e h1 h2 vs))
+
 -- `( [simple] ; [expr] ; [simple] )`
 unfoldable pub head_at : ℕ → Measured Head
 head_at d ts =
-    then_value (mark_at (codes "(") ts) (λ p1 t1.
-    then_tree (may_simple_at d t1) (λ a h1 t2.
-    then_value (mark_at (codes ";") t2) (λ p2 t3.
-    then_tree (may_expr_at d t3) (λ e h2 t4.
-    then_value (mark_at (codes ";") t4) (λ p3 t5.
-    then_tree (may_simple_at d t5) (λ b h3 t6.
-    then_value (mark_at (codes ")") t6) (λ p4 rest.
-    Some (record { start = a; condition = e; step = b }, max h1 (max h2 h3), rest))))))))
+    then_value (mark_at (codes "(") ts) (λ p t1.
+    then_tree (may_simple_at d t1) (λ a h t2.
+    then_value (mark_at (codes ";") t2) (λ q t3.
+    head_condition_at d a h t3)))
 
 -- ---- statements without statements inside
 
@@ -277,40 +295,63 @@ may_else_at inner ts =
     if_value (word_at (codes "else") ts) (λ p us. then_tree (inner us) (λ s h rest. Some (Some s, h, rest))) (
     Some (None, 0, ts))
 
+-- `[else stmt]` of an `if`
+unfoldable pub otherwise_at : Measured stmt.Stmt → ℕ → tree.ExprTree → stmt.Stmt → ℕ → ℕ → Measured stmt.Stmt
+otherwise_at inner at e s h1 h2 ts =
+    then_tree (may_else_at inner ts) (λ r h3 rest.
+    Some (stmt.If at e s r, max h1 (max h2 h3) + 1, rest))
+
+-- `stmt [else stmt]` of an `if`
+unfoldable pub chosen_at : Measured stmt.Stmt → ℕ → tree.ExprTree → ℕ → Measured stmt.Stmt
+chosen_at inner at e h1 ts = then_tree (inner ts) (λ s h2 us. otherwise_at inner at e s h1 h2 us)
+
 -- `if ( expr ) stmt [else stmt]`
 unfoldable pub if_at : ℕ → Measured stmt.Stmt → Measured stmt.Stmt
 if_at d inner ts =
     then_value (word_at (codes "if") ts) (λ at t1.
-    then_tree (condition_at d t1) (λ e h1 t2.
-    then_tree (inner t2) (λ s h2 t3.
-    then_tree (may_else_at inner t3) (λ r h3 rest.
-    Some (stmt.If at e s r, max h1 (max h2 h3) + 1, rest)))))
+    then_tree (condition_at d t1) (λ e h t2.
+    chosen_at inner at e h t2))
+
+-- the body of a `while`
+unfoldable pub repeated_at : Measured stmt.Stmt → ℕ → tree.ExprTree → ℕ → Measured stmt.Stmt
+repeated_at inner at e h1 ts =
+    then_tree (inner ts) (λ s h2 rest.
+    Some (stmt.While at e s, max h1 h2 + 1, rest))
 
 -- `while ( expr ) stmt`
 unfoldable pub while_at : ℕ → Measured stmt.Stmt → Measured stmt.Stmt
 while_at d inner ts =
     then_value (word_at (codes "while") ts) (λ at t1.
-    then_tree (condition_at d t1) (λ e h1 t2.
-    then_tree (inner t2) (λ s h2 rest.
-    Some (stmt.While at e s, max h1 h2 + 1, rest))))
+    then_tree (condition_at d t1) (λ e h t2.
+    repeated_at inner at e h t2))
+
+-- `while ( expr ) ;` of a `do`
+unfoldable pub until_at : ℕ → ℕ → stmt.Stmt → ℕ → Measured stmt.Stmt
+until_at d at s h1 ts =
+    then_value (word_at (codes "while") ts) (λ p t1.
+    then_tree (condition_at d t1) (λ e h2 t2.
+    then_value (mark_at (codes ";") t2) (λ q rest.
+    Some (stmt.DoWhile at s e, max h1 h2 + 1, rest))))
 
 -- `do stmt while ( expr ) ;`
 unfoldable pub do_at : ℕ → Measured stmt.Stmt → Measured stmt.Stmt
 do_at d inner ts =
     then_value (word_at (codes "do") ts) (λ at t1.
-    then_tree (inner t1) (λ s h1 t2.
-    then_value (word_at (codes "while") t2) (λ p t3.
-    then_tree (condition_at d t3) (λ e h2 t4.
-    then_value (mark_at (codes ";") t4) (λ q rest.
-    Some (stmt.DoWhile at s e, max h1 h2 + 1, rest))))))
+    then_tree (inner t1) (λ s h t2.
+    until_at d at s h t2))
+
+-- the body of a `for`
+unfoldable pub headed_at : Measured stmt.Stmt → ℕ → Head → ℕ → Measured stmt.Stmt
+headed_at inner at p h1 ts =
+    then_tree (inner ts) (λ s h2 rest.
+    Some (stmt.For at p.start p.condition p.step s, max h1 h2 + 1, rest))
 
 -- `for ( [simple] ; [expr] ; [simple] ) stmt`
 unfoldable pub for_at : ℕ → Measured stmt.Stmt → Measured stmt.Stmt
 for_at d inner ts =
     then_value (word_at (codes "for") ts) (λ at t1.
-    then_tree (head_at d t1) (λ p h1 t2.
-    then_tree (inner t2) (λ s h2 rest.
-    Some (stmt.For at p.start p.condition p.step s, max h1 h2 + 1, rest))))
+    then_tree (head_at d t1) (λ p h t2.
+    headed_at inner at p h t2))
 
 unfoldable pub compound_at : ℕ → Measured stmt.Stmt → Measured stmt.Stmt
 compound_at d inner ts =

@@ -3,19 +3,20 @@
 
 ghost use Rattle.std.specs.Prelude.{◌≡◌, ◌≤◌};
 ghost use Rattle.sol_parse_expr.specs.Reading.{Gives, GivesOne, Within, WithinOne};
-ghost use Rattle.sol_parse_stmt.specs.Reading.{arguments_at, condition_at, head_at, may_expr_at, sent_at};
+ghost use Rattle.sol_parse_stmt.specs.Reading.{arguments_at, condition_at, head_at, head_condition_at, head_step_at, may_expr_at, sent_at};
 
 use crate::simple::may_simple_at;
 use chc_nums::NoMemory;
-use sol_parse_expr::{Reach, all_at, expr_at, mark_at, name_at};
+use sol_parse_expr::{Furthest, all_at, expr_at, mark_at, name_at};
 use sol_tree::{Arguments, ExprTree, Identifier, Simple, Token};
+use sqlite_items::Boxed;
 
 // `( [simple] ; [expr] ; [simple] )`
 #[derive(Drop)]
 pub struct Head {
-    pub start: Option<Simple>,
-    pub condition: Option<ExprTree>,
-    pub step: Option<Simple>,
+    pub start: Boxed<Option<Simple>>,
+    pub condition: Boxed<Option<ExprTree>>,
+    pub step: Boxed<Option<Simple>>,
 }
 
 // An event or an error with what it is given, `ID ( [args] ) ;`.
@@ -28,14 +29,14 @@ pub struct Sent {
 /// `[expr]`
 #[tactic(auto, unfolding(crate::specs::Reading::may_expr_at))]
 pub fn may_expr_at<'a>(
-    reach: &mut Reach,
+    furthest: &mut Furthest,
     inner: u8,
     tokens: &'a [Token],
 ) -> Result<(Option<ExprTree>, u32, &'a [Token]), NoMemory>
     ensures read { GivesOne result (may_expr_at inner tokens.now) }
     ensures within { WithinOne inner result }
 {
-    match expr_at(reach, inner, 10, tokens)? {
+    match expr_at(furthest, inner, 10, tokens)? {
         None => Ok((None, 0, tokens)),
         Some((expr, height, rest)) => Ok((Some(expr), height, rest)),
     }
@@ -44,20 +45,21 @@ pub fn may_expr_at<'a>(
 /// `( expr )`
 #[tactic(auto, unfolding(crate::specs::Reading::condition_at))]
 pub fn condition_at<'a>(
-    reach: &mut Reach,
+    furthest: &mut Furthest,
     inner: u8,
     tokens: &'a [Token],
-) -> Result<Option<(ExprTree, u32, &'a [Token])>, NoMemory>
+) -> Result<Option<(Boxed<ExprTree>, u32, &'a [Token])>, NoMemory>
     ensures read { Gives result (condition_at inner tokens.now) }
     ensures within { Within inner result }
 {
-    let Some((_, rest)) = mark_at(reach, b"(", tokens) else {
+    let Some((_, rest)) = mark_at(furthest, b"(", tokens) else {
         return Ok(None);
     };
-    let Some((expr, height, rest)) = expr_at(reach, inner, 10, rest)? else {
+    let Some((expr, height, rest)) = expr_at(furthest, inner, 10, rest)? else {
         return Ok(None);
     };
-    let Some((_, rest)) = mark_at(reach, b")", rest) else {
+    let expr = Boxed::new(furthest.alloc, expr)?;
+    let Some((_, rest)) = mark_at(furthest, b")", rest) else {
         return Ok(None);
     };
     Ok(Some((expr, height, rest)))
@@ -66,18 +68,18 @@ pub fn condition_at<'a>(
 /// `( [args] )`, each of at most so many levels.
 #[tactic(auto, unfolding(crate::specs::Reading::arguments_at))]
 pub fn arguments_at<'a>(
-    reach: &mut Reach,
+    furthest: &mut Furthest,
     inner: u8,
     tokens: &'a [Token],
 ) -> Result<Option<(Arguments, u32, &'a [Token])>, NoMemory>
     ensures read { Gives result (arguments_at inner tokens.now) }
     ensures within { Within inner result }
 {
-    let Some((at, rest)) = mark_at(reach, b"(", tokens) else {
+    let Some((at, rest)) = mark_at(furthest, b"(", tokens) else {
         return Ok(None);
     };
-    let (values, height, rest) = all_at(reach, inner, rest)?;
-    let Some((_, rest)) = mark_at(reach, b")", rest) else {
+    let (values, height, rest) = all_at(furthest, inner, rest)?;
+    let Some((_, rest)) = mark_at(furthest, b")", rest) else {
         return Ok(None);
     };
     Ok(Some((Arguments { at, values }, height, rest)))
@@ -86,48 +88,44 @@ pub fn arguments_at<'a>(
 /// `ID ( [args] ) ;`
 #[tactic(auto, unfolding(crate::specs::Reading::sent_at))]
 pub fn sent_at<'a>(
-    reach: &mut Reach,
+    furthest: &mut Furthest,
     inner: u8,
     tokens: &'a [Token],
 ) -> Result<Option<(Sent, u32, &'a [Token])>, NoMemory>
     ensures read { Gives result (sent_at inner tokens.now) }
     ensures within { Within inner result }
 {
-    let Some((name, rest)) = name_at(reach, tokens)? else {
+    let Some((name, rest)) = name_at(furthest, tokens)? else {
         return Ok(None);
     };
-    let Some((arguments, height, rest)) = arguments_at(reach, inner, rest)? else {
+    let Some((arguments, height, rest)) = arguments_at(furthest, inner, rest)? else {
         return Ok(None);
     };
-    let Some((_, rest)) = mark_at(reach, b";", rest) else {
+    let Some((_, rest)) = mark_at(furthest, b";", rest) else {
         return Ok(None);
     };
     Ok(Some((Sent { name, arguments }, height, rest)))
 }
 
-/// `( [simple] ; [expr] ; [simple] )`
-#[tactic(auto, unfolding(crate::specs::Reading::head_at))]
-pub fn head_at<'a>(
-    reach: &mut Reach,
+// `[simple] )`, the last part of the head of a `for`.
+#[tactic(auto, unfolding(crate::specs::Reading::head_step_at))]
+fn head_step_at<'a>(
+    furthest: &mut Furthest,
     inner: u8,
+    start: Boxed<Option<Simple>>,
+    condition: Boxed<Option<ExprTree>>,
+    start_height: u32,
+    condition_height: u32,
     tokens: &'a [Token],
 ) -> Result<Option<(Head, u32, &'a [Token])>, NoMemory>
-    ensures read { Gives result (head_at inner tokens.now) }
+    requires start_low { start_height ≤ inner }
+    requires condition_low { condition_height ≤ inner }
+    ensures read { Gives result (head_step_at inner start condition start_height condition_height tokens.now) }
     ensures within { Within inner result }
 {
-    let Some((_, rest)) = mark_at(reach, b"(", tokens) else {
-        return Ok(None);
-    };
-    let (start, start_height, rest) = may_simple_at(reach, inner, rest)?;
-    let Some((_, rest)) = mark_at(reach, b";", rest) else {
-        return Ok(None);
-    };
-    let (condition, height, rest) = may_expr_at(reach, inner, rest)?;
-    let Some((_, rest)) = mark_at(reach, b";", rest) else {
-        return Ok(None);
-    };
-    let (step, step_height, rest) = may_simple_at(reach, inner, rest)?;
-    let Some((_, rest)) = mark_at(reach, b")", rest) else {
+    let (step, height, rest) = may_simple_at(furthest, inner, tokens)?;
+    let step = Boxed::new(furthest.alloc, step)?;
+    let Some((_, rest)) = mark_at(furthest, b")", rest) else {
         return Ok(None);
     };
     let head = Head {
@@ -135,5 +133,55 @@ pub fn head_at<'a>(
         condition,
         step,
     };
-    Ok(Some((head, start_height.max(height.max(step_height)), rest)))
+    Ok(Some((head, start_height.max(condition_height.max(height)), rest)))
+}
+
+// `[expr] ; [simple] )`
+#[tactic(auto, unfolding(crate::specs::Reading::head_condition_at))]
+fn head_condition_at<'a>(
+    furthest: &mut Furthest,
+    inner: u8,
+    start: Boxed<Option<Simple>>,
+    start_height: u32,
+    tokens: &'a [Token],
+) -> Result<Option<(Head, u32, &'a [Token])>, NoMemory>
+    requires low { start_height ≤ inner }
+    ensures read { Gives result (head_condition_at inner start start_height tokens.now) }
+    ensures within { Within inner result }
+{
+    let (condition, height, rest) = may_expr_at(furthest, inner, tokens)?;
+    let condition = Boxed::new(furthest.alloc, condition)?;
+    let Some((_, rest)) = mark_at(furthest, b";", rest) else {
+        return Ok(None);
+    };
+    head_step_at(
+        furthest,
+        inner,
+        start,
+        condition,
+        start_height,
+        height,
+        rest,
+    )
+}
+
+/// `( [simple] ; [expr] ; [simple] )`
+#[tactic(auto, unfolding(crate::specs::Reading::head_at))]
+pub fn head_at<'a>(
+    furthest: &mut Furthest,
+    inner: u8,
+    tokens: &'a [Token],
+) -> Result<Option<(Head, u32, &'a [Token])>, NoMemory>
+    ensures read { Gives result (head_at inner tokens.now) }
+    ensures within { Within inner result }
+{
+    let Some((_, rest)) = mark_at(furthest, b"(", tokens) else {
+        return Ok(None);
+    };
+    let (start, height, rest) = may_simple_at(furthest, inner, rest)?;
+    let start = Boxed::new(furthest.alloc, start)?;
+    let Some((_, rest)) = mark_at(furthest, b";", rest) else {
+        return Ok(None);
+    };
+    head_condition_at(furthest, inner, start, height, rest)
 }

@@ -3,27 +3,28 @@
 
 ghost use Rattle.std.specs.Prelude.{◌≡◌, ◌≤◌};
 ghost use Rattle.sol_parse_expr.specs.Reading.{Gives, GivesOne, Within, WithinOne};
-ghost use Rattle.sol_parse_stmt.specs.Reading.{after_at, assigned_at, declaration_at, delete_at, initial_at, led_at, may_initial_at, may_simple_at, simple_at, step_before_at};
+ghost use Rattle.sol_parse_stmt.specs.Reading.{after_at, assigned_at, declaration_at, declared_at, delete_at, initial_at, initialised_at, led_at, may_initial_at, may_simple_at, simple_at, step_before_at};
 
 use crate::steps::{assign_at, step_at};
 use chc_nums::NoMemory;
-use sol_parse_expr::{Reach, expr_at, mark_at, name_at, type_at, word_at};
-use sol_tree::{AssignOp, ExprTree, Initial, Simple, Token};
+use sol_parse_expr::{Furthest, expr_at, mark_at, name_at, type_at, word_at};
+use sol_tree::{AssignOp, ExprTree, Identifier, Initial, Simple, Token, Type};
+use sqlite_items::Boxed;
 
 // `= expr`
 #[tactic(auto, unfolding(crate::specs::Reading::initial_at))]
 fn initial_at<'a>(
-    reach: &mut Reach,
+    furthest: &mut Furthest,
     inner: u8,
     tokens: &'a [Token],
 ) -> Result<Option<(Initial, u32, &'a [Token])>, NoMemory>
     ensures read { Gives result (initial_at inner tokens.now) }
     ensures within { Within inner result }
 {
-    let Some((at, rest)) = mark_at(reach, b"=", tokens) else {
+    let Some((at, rest)) = mark_at(furthest, b"=", tokens) else {
         return Ok(None);
     };
-    let Some((value, height, rest)) = expr_at(reach, inner, 10, rest)? else {
+    let Some((value, height, rest)) = expr_at(furthest, inner, 10, rest)? else {
         return Ok(None);
     };
     Ok(Some((Initial { at, value }, height, rest)))
@@ -32,36 +33,35 @@ fn initial_at<'a>(
 /// `= expr`, where it stands; the expression has at most so many levels.
 #[tactic(auto, unfolding(crate::specs::Reading::may_initial_at))]
 pub fn may_initial_at<'a>(
-    reach: &mut Reach,
+    furthest: &mut Furthest,
     inner: u8,
     tokens: &'a [Token],
 ) -> Result<(Option<Initial>, u32, &'a [Token]), NoMemory>
     ensures read { GivesOne result (may_initial_at inner tokens.now) }
     ensures within { WithinOne inner result }
 {
-    match initial_at(reach, inner, tokens)? {
+    match initial_at(furthest, inner, tokens)? {
         None => Ok((None, 0, tokens)),
         Some((initial, height, rest)) => Ok((Some(initial), height, rest)),
     }
 }
 
-// `type ID [= expr]`
-#[tactic(auto, unfolding(crate::specs::Reading::declaration_at))]
-fn declaration_at<'a>(
-    reach: &mut Reach,
+// `[= expr]` after a type and a name.
+#[tactic(auto, unfolding(crate::specs::Reading::initialised_at))]
+fn initialised_at<'a>(
+    furthest: &mut Furthest,
     inner: u8,
+    ty: Boxed<Type>,
+    name: Identifier,
+    height: u32,
     tokens: &'a [Token],
 ) -> Result<Option<(Simple, u32, &'a [Token])>, NoMemory>
-    ensures read { Gives result (declaration_at inner tokens.now) }
+    requires low { height ≤ inner }
+    ensures read { Gives result (initialised_at inner ty name height tokens.now) }
     ensures within { Within inner result }
 {
-    let Some((ty, height, rest)) = type_at(reach, inner, tokens)? else {
-        return Ok(None);
-    };
-    let Some((name, rest)) = name_at(reach, rest)? else {
-        return Ok(None);
-    };
-    let (initial, initial_height, rest) = may_initial_at(reach, inner, rest)?;
+    let (initial, initial_height, rest) = may_initial_at(furthest, inner, tokens)?;
+    let ty = ty.into_inner();
     let simple = Simple::Declaration {
         at: ty.at(),
         ty,
@@ -71,12 +71,48 @@ fn declaration_at<'a>(
     Ok(Some((simple, height.max(initial_height), rest)))
 }
 
+// `ID [= expr]` after a type.
+#[tactic(auto, unfolding(crate::specs::Reading::declared_at))]
+fn declared_at<'a>(
+    furthest: &mut Furthest,
+    inner: u8,
+    ty: Boxed<Type>,
+    height: u32,
+    tokens: &'a [Token],
+) -> Result<Option<(Simple, u32, &'a [Token])>, NoMemory>
+    requires low { height ≤ inner }
+    ensures read { Gives result (declared_at inner ty height tokens.now) }
+    ensures within { Within inner result }
+{
+    let Some((name, rest)) = name_at(furthest, tokens)? else {
+        return Ok(None);
+    };
+    initialised_at(furthest, inner, ty, name, height, rest)
+}
+
+// `type ID [= expr]`
+#[tactic(auto, unfolding(crate::specs::Reading::declaration_at))]
+fn declaration_at<'a>(
+    furthest: &mut Furthest,
+    inner: u8,
+    tokens: &'a [Token],
+) -> Result<Option<(Simple, u32, &'a [Token])>, NoMemory>
+    ensures read { Gives result (declaration_at inner tokens.now) }
+    ensures within { Within inner result }
+{
+    let Some((ty, height, rest)) = type_at(furthest, inner, tokens)? else {
+        return Ok(None);
+    };
+    let ty = Boxed::new(furthest.alloc, ty)?;
+    declared_at(furthest, inner, ty, height, rest)
+}
+
 // What is assigned to `target`.
 #[tactic(auto, unfolding(crate::specs::Reading::assigned_at))]
 fn assigned_at<'a>(
-    reach: &mut Reach,
+    furthest: &mut Furthest,
     inner: u8,
-    target: ExprTree,
+    target: Boxed<ExprTree>,
     height: u32,
     operator_at: u32,
     operator: AssignOp,
@@ -86,9 +122,10 @@ fn assigned_at<'a>(
     ensures read { Gives result (assigned_at inner target height operator_at operator tokens.now) }
     ensures within { Within inner result }
 {
-    let Some((value, value_height, rest)) = expr_at(reach, inner, 10, tokens)? else {
+    let Some((value, value_height, rest)) = expr_at(furthest, inner, 10, tokens)? else {
         return Ok(None);
     };
+    let target = target.into_inner();
     let simple = Simple::Assignment {
         at: target.at(),
         target,
@@ -102,7 +139,7 @@ fn assigned_at<'a>(
 // An expression that was read, with what is done to it.
 #[tactic(auto, unfolding(crate::specs::Reading::after_at))]
 fn after_at<'a>(
-    reach: &mut Reach,
+    furthest: &mut Furthest,
     inner: u8,
     expr: ExprTree,
     height: u32,
@@ -112,11 +149,12 @@ fn after_at<'a>(
     ensures read { Gives result (after_at inner expr height tokens.now) }
     ensures within { Within inner result }
 {
-    if let Some(((operator_at, operator), rest)) = assign_at(reach, tokens) {
-        return assigned_at(reach, inner, expr, height, operator_at, operator, rest);
+    if let Some(((operator_at, operator), rest)) = assign_at(furthest, tokens) {
+        let target = Boxed::new(furthest.alloc, expr)?;
+        return assigned_at(furthest, inner, target, height, operator_at, operator, rest);
     }
     let at = expr.at();
-    if let Some(((operator_at, operator), rest)) = step_at(reach, tokens) {
+    if let Some(((operator_at, operator), rest)) = step_at(furthest, tokens) {
         let simple = Simple::StepAfter {
             at,
             target: expr,
@@ -131,33 +169,33 @@ fn after_at<'a>(
 // What begins with an expression.
 #[tactic(auto, unfolding(crate::specs::Reading::led_at))]
 fn led_at<'a>(
-    reach: &mut Reach,
+    furthest: &mut Furthest,
     inner: u8,
     tokens: &'a [Token],
 ) -> Result<Option<(Simple, u32, &'a [Token])>, NoMemory>
     ensures read { Gives result (led_at inner tokens.now) }
     ensures within { Within inner result }
 {
-    let Some((expr, height, rest)) = expr_at(reach, inner, 10, tokens)? else {
+    let Some((expr, height, rest)) = expr_at(furthest, inner, 10, tokens)? else {
         return Ok(None);
     };
-    after_at(reach, inner, expr, height, rest)
+    after_at(furthest, inner, expr, height, rest)
 }
 
 // `++ expr`, `-- expr`
 #[tactic(auto, unfolding(crate::specs::Reading::step_before_at))]
 fn step_before_at<'a>(
-    reach: &mut Reach,
+    furthest: &mut Furthest,
     inner: u8,
     tokens: &'a [Token],
 ) -> Result<Option<(Simple, u32, &'a [Token])>, NoMemory>
     ensures read { Gives result (step_before_at inner tokens.now) }
     ensures within { Within inner result }
 {
-    let Some(((at, operator), rest)) = step_at(reach, tokens) else {
+    let Some(((at, operator), rest)) = step_at(furthest, tokens) else {
         return Ok(None);
     };
-    let Some((target, height, rest)) = expr_at(reach, inner, 10, rest)? else {
+    let Some((target, height, rest)) = expr_at(furthest, inner, 10, rest)? else {
         return Ok(None);
     };
     let simple = Simple::StepBefore {
@@ -171,17 +209,17 @@ fn step_before_at<'a>(
 // `delete expr`
 #[tactic(auto, unfolding(crate::specs::Reading::delete_at))]
 fn delete_at<'a>(
-    reach: &mut Reach,
+    furthest: &mut Furthest,
     inner: u8,
     tokens: &'a [Token],
 ) -> Result<Option<(Simple, u32, &'a [Token])>, NoMemory>
     ensures read { Gives result (delete_at inner tokens.now) }
     ensures within { Within inner result }
 {
-    let Some((at, rest)) = word_at(reach, b"delete", tokens) else {
+    let Some((at, rest)) = word_at(furthest, b"delete", tokens) else {
         return Ok(None);
     };
-    let Some((target, height, rest)) = expr_at(reach, inner, 10, rest)? else {
+    let Some((target, height, rest)) = expr_at(furthest, inner, 10, rest)? else {
         return Ok(None);
     };
     Ok(Some((Simple::Delete { at, target }, height, rest)))
@@ -190,36 +228,36 @@ fn delete_at<'a>(
 /// What may stand before a `;`.
 #[tactic(auto, unfolding(crate::specs::Reading::simple_at))]
 pub fn simple_at<'a>(
-    reach: &mut Reach,
+    furthest: &mut Furthest,
     inner: u8,
     tokens: &'a [Token],
 ) -> Result<Option<(Simple, u32, &'a [Token])>, NoMemory>
     ensures read { Gives result (simple_at inner tokens.now) }
     ensures within { Within inner result }
 {
-    if let Some(found) = declaration_at(reach, inner, tokens)? {
+    if let Some(found) = declaration_at(furthest, inner, tokens)? {
         return Ok(Some(found));
     }
-    if let Some(found) = step_before_at(reach, inner, tokens)? {
+    if let Some(found) = step_before_at(furthest, inner, tokens)? {
         return Ok(Some(found));
     }
-    if let Some(found) = delete_at(reach, inner, tokens)? {
+    if let Some(found) = delete_at(furthest, inner, tokens)? {
         return Ok(Some(found));
     }
-    led_at(reach, inner, tokens)
+    led_at(furthest, inner, tokens)
 }
 
 /// `[simple]`
 #[tactic(auto, unfolding(crate::specs::Reading::may_simple_at))]
 pub fn may_simple_at<'a>(
-    reach: &mut Reach,
+    furthest: &mut Furthest,
     inner: u8,
     tokens: &'a [Token],
 ) -> Result<(Option<Simple>, u32, &'a [Token]), NoMemory>
     ensures read { GivesOne result (may_simple_at inner tokens.now) }
     ensures within { WithinOne inner result }
 {
-    match simple_at(reach, inner, tokens)? {
+    match simple_at(furthest, inner, tokens)? {
         None => Ok((None, 0, tokens)),
         Some((simple, height, rest)) => Ok((Some(simple), height, rest)),
     }

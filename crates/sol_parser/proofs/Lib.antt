@@ -1,4 +1,3 @@
-pub mod Heads
 pub mod Laws
 pub mod SoundFiles
 pub mod SoundLists
@@ -8,6 +7,6 @@ pub mod Statements
 pub mod Turns
 pub mod WholeFiles
 pub mod WholeLists
-pub mod WholeMarks
+pub mod WholeSpecifiers
 pub mod WholeMembers
 pub mod WholeParts

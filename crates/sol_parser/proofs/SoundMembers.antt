@@ -9,18 +9,18 @@ use Rattle.sol_parse_expr.proofs.SoundTypes.{sound-type}
 use Rattle.sol_parse_stmt.specs.Grammar.{MayInitial, SpellsBlock}
 use Rattle.sol_parse_stmt.specs.Heights.{initial_height, block_height}
 use Rattle.sol_parse_stmt.specs.Reading.{block_at, may_initial_at}
-use Rattle.sol_parser.specs.Grammar.{Repeated, Enclosed, SpellsVarMark, SpellsFunMark, SpellsConstructorMark, SpellsModifierMark, SpellsParam, SpellsEventParam, MayReturns, SpellsBody, MayParams, MayAnonymous, SpellsVar, SpellsFun, SpellsConstructor, SpellsModifier, SpellsEvent, SpellsError, SpellsMember}
-use Rattle.sol_parser.specs.Heights.{greatest_by, may_by, param_height, event_param_height, fun_mark_height, constructor_mark_height, var_height, fun_height, constructor_height, modifier_height, event_height, error_height, member_height}
-use Rattle.sol_parser.specs.Reading.{many_at, enclosed_at, may_word_at, var_mark_at, fun_mark_at, constructor_mark_at, modifier_mark_at, param_at, event_param_at, may_returns_at, body_at, may_params_at, var_at, fun_at, constructor_at, modifier_at, event_at, error_at, member_at}
+use Rattle.sol_parser.specs.Grammar.{Repeated, Enclosed, SpellsVarSpecifier, SpellsFunSpecifier, SpellsConstructorSpecifier, SpellsModifierSpecifier, SpellsParam, SpellsEventParam, MayReturns, SpellsBody, MayParams, MayAnonymous, SpellsVar, SpellsFun, SpellsConstructor, SpellsModifier, SpellsEvent, SpellsError, SpellsMember}
+use Rattle.sol_parser.specs.Heights.{greatest_by, may_by, param_height, event_param_height, fun_specifier_height, constructor_specifier_height, var_height, fun_height, constructor_height, modifier_height, event_height, error_height, member_height}
+use Rattle.sol_parser.specs.Reading.{many_at, enclosed_at, may_word_at, var_specifier_at, fun_specifier_at, constructor_specifier_at, modifier_specifier_at, param_at, event_param_at, may_returns_at, body_at, may_params_at, var_at, fun_at, constructor_at, modifier_at, event_at, error_at, member_at}
 use Rattle.sol_parser.proofs.SoundLists.{Sound, sound-many, sound-enclosed}
 use Rattle.sol_parser.proofs.Statements.{sound-block, sound-initial}
-use Rattle.sol_parser.proofs.SoundParts.{flat, sound-var_mark, sound-fun_mark, sound-constructor_mark, sound-modifier_mark, after-may_word, sound-event_param, sound-may_returns, sound-body, sound-params, sound-may_params}
+use Rattle.sol_parser.proofs.SoundParts.{flat, sound-var_specifier, sound-fun_specifier, sound-constructor_specifier, sound-modifier_specifier, after-may_word, sound-event_param, sound-may_returns, sound-body, sound-params, sound-may_params}
 
 sound-var : (d : ℕ) → Sound var_height SpellsVar (suc d) (var_at d)
 unfolding var_at
 sound-var d ts =
     after-tree (type_at d ts) _ (Front (Read var_height SpellsVar (suc d))) (Read type_height SpellsType d) ts (sound-type d ts) (λ t h us t1 r.
-    after-tree (many_at var_mark_at t1) _ (λ x. Front (Read var_height SpellsVar (suc d)) (us ++ x)) (Read (greatest_by flat) (Repeated SpellsVarMark) 0) t1 (sound-many flat SpellsVarMark 0 var_mark_at (sound-var_mark 0) t1) (λ ms k vs t2 q.
+    after-tree (many_at var_specifier_at t1) _ (λ x. Front (Read var_height SpellsVar (suc d)) (us ++ x)) (Read (greatest_by flat) (Repeated SpellsVarSpecifier) 0) t1 (sound-many flat SpellsVarSpecifier 0 var_specifier_at (sound-var_specifier 0) t1) (λ ms k vs t2 q.
     after-name t2 _ (λ x. Front (Read var_height SpellsVar (suc d)) (us ++ (vs ++ x))) (λ m n t3 im.
     after-tree (may_initial_at d t3) _ (λ x. Front (Read var_height SpellsVar (suc d)) (us ++ (vs ++ (m ∷ x)))) (Read initial_height MayInitial d) t3 (sound-initial d t3) (λ i j is t4 p.
     after-mark (codes ";") t4 _ (λ x. Front (Read var_height SpellsVar (suc d)) (us ++ (vs ++ (m ∷ (is ++ x))))) (λ e rest ie. (
@@ -39,7 +39,7 @@ sound-fun d ts =
     after-word (codes "function") ts _ (Front (Read fun_height SpellsFun (suc d))) (λ w t1 iw.
     after-name t1 _ (λ x. Front (Read fun_height SpellsFun (suc d)) (w ∷ x)) (λ m n t2 im.
     after-tree (enclosed_at (param_at d) t2) _ (λ x. Front (Read fun_height SpellsFun (suc d)) (w ∷ (m ∷ x))) (Read (greatest_by param_height) (Enclosed SpellsParam) d) t2 (sound-params d t2) (λ ps h us t3 r.
-    after-tree (many_at (fun_mark_at d) t3) _ (λ x. Front (Read fun_height SpellsFun (suc d)) (w ∷ (m ∷ (us ++ x)))) (Read (greatest_by fun_mark_height) (Repeated SpellsFunMark) d) t3 (sound-many fun_mark_height SpellsFunMark d (fun_mark_at d) (sound-fun_mark d) t3) (λ ms k vs t4 q.
+    after-tree (many_at (fun_specifier_at d) t3) _ (λ x. Front (Read fun_height SpellsFun (suc d)) (w ∷ (m ∷ (us ++ x)))) (Read (greatest_by fun_specifier_height) (Repeated SpellsFunSpecifier) d) t3 (sound-many fun_specifier_height SpellsFunSpecifier d (fun_specifier_at d) (sound-fun_specifier d) t3) (λ ms k vs t4 q.
     after-tree (may_returns_at d t4) _ (λ x. Front (Read fun_height SpellsFun (suc d)) (w ∷ (m ∷ (us ++ (vs ++ x))))) (Read (may_by param_height) MayReturns d) t4 (sound-may_returns d t4) (λ x i ws t5 p.
     after-tree (body_at d t5) _ (λ x. Front (Read fun_height SpellsFun (suc d)) (w ∷ (m ∷ (us ++ (vs ++ (ws ++ x)))))) (Read (may_by block_height) SpellsBody d) t5 (sound-body d t5) (λ y j xs rest o. (
       w ∷ (m ∷ (us ++ (vs ++ (ws ++ xs)))),
@@ -56,7 +56,7 @@ unfolding constructor_at
 sound-constructor d ts =
     after-word (codes "constructor") ts _ (Front (Read constructor_height SpellsConstructor (suc d))) (λ w t1 iw.
     after-tree (enclosed_at (param_at d) t1) _ (λ x. Front (Read constructor_height SpellsConstructor (suc d)) (w ∷ x)) (Read (greatest_by param_height) (Enclosed SpellsParam) d) t1 (sound-params d t1) (λ ps h us t2 r.
-    after-tree (many_at (constructor_mark_at d) t2) _ (λ x. Front (Read constructor_height SpellsConstructor (suc d)) (w ∷ (us ++ x))) (Read (greatest_by constructor_mark_height) (Repeated SpellsConstructorMark) d) t2 (sound-many constructor_mark_height SpellsConstructorMark d (constructor_mark_at d) (sound-constructor_mark d) t2) (λ ms k vs t3 q.
+    after-tree (many_at (constructor_specifier_at d) t2) _ (λ x. Front (Read constructor_height SpellsConstructor (suc d)) (w ∷ (us ++ x))) (Read (greatest_by constructor_specifier_height) (Repeated SpellsConstructorSpecifier) d) t2 (sound-many constructor_specifier_height SpellsConstructorSpecifier d (constructor_specifier_at d) (sound-constructor_specifier d) t2) (λ ms k vs t3 q.
     after-tree (block_at d t3) _ (λ x. Front (Read constructor_height SpellsConstructor (suc d)) (w ∷ (us ++ (vs ++ x)))) (Read block_height SpellsBlock d) t3 (sound-block d t3) (λ y j xs rest o. (
       w ∷ (us ++ (vs ++ xs)),
       record {
@@ -73,7 +73,7 @@ sound-modifier d ts =
     after-word (codes "modifier") ts _ (Front (Read modifier_height SpellsModifier (suc d))) (λ w t1 iw.
     after-name t1 _ (λ x. Front (Read modifier_height SpellsModifier (suc d)) (w ∷ x)) (λ m n t2 im.
     after-tree (may_params_at d t2) _ (λ x. Front (Read modifier_height SpellsModifier (suc d)) (w ∷ (m ∷ x))) (Read (greatest_by param_height) MayParams d) t2 (sound-may_params d t2) (λ ps h us t3 r.
-    after-tree (many_at modifier_mark_at t3) _ (λ x. Front (Read modifier_height SpellsModifier (suc d)) (w ∷ (m ∷ (us ++ x)))) (Read (greatest_by flat) (Repeated SpellsModifierMark) 0) t3 (sound-many flat SpellsModifierMark 0 modifier_mark_at (sound-modifier_mark 0) t3) (λ ms k vs t4 q.
+    after-tree (many_at modifier_specifier_at t3) _ (λ x. Front (Read modifier_height SpellsModifier (suc d)) (w ∷ (m ∷ (us ++ x)))) (Read (greatest_by flat) (Repeated SpellsModifierSpecifier) 0) t3 (sound-many flat SpellsModifierSpecifier 0 modifier_specifier_at (sound-modifier_specifier 0) t3) (λ ms k vs t4 q.
     after-tree (body_at d t4) _ (λ x. Front (Read modifier_height SpellsModifier (suc d)) (w ∷ (m ∷ (us ++ (vs ++ x))))) (Read (may_by block_height) SpellsBody d) t4 (sound-body d t4) (λ y j xs rest o. (
       w ∷ (m ∷ (us ++ (vs ++ xs))),
       record {

@@ -12,11 +12,11 @@ use Rattle.sol_parse_stmt.specs.Grammar.{MayInitial, SpellsArguments, SpellsBloc
 use Rattle.sol_parse_stmt.specs.Heights.{arguments_height, initial_height, block_height}
 use Rattle.sol_parse_stmt.specs.Reading.{block_at, arguments_at, may_initial_at}
 use Rattle.sol_tree.specs.declared.file.Override.{Override}
-use Rattle.sol_tree.specs.declared.file.VarMark.{VarMark}
-use Rattle.sol_tree.specs.declared.file.ModifierMark.{ModifierMark}
-use Rattle.sol_parser.specs.Grammar.{Separated, MaySeparated, Repeated, Enclosed, SpellsName, SpellsBase, SpellsOverride, SpellsVarMark, SpellsFunMark, SpellsConstructorMark, SpellsModifierMark, SpellsParam, MayIndexed, SpellsEventParam, MayReturns, SpellsBody, MayParams}
-use Rattle.sol_parser.specs.Heights.{greatest_by, may_by, base_height, param_height, event_param_height, fun_mark_height, constructor_mark_height}
-use Rattle.sol_parser.specs.Reading.{separated_at, enclosed_at, named_at, may_word_at, base_at, names_at, override_at, var_mark_at, plain_mark_at, fun_mark_at, constructor_mark_at, modifier_mark_at, param_at, event_param_at, may_returns_at, body_at, may_params_at}
+use Rattle.sol_tree.specs.declared.file.VarSpecifier.{VarSpecifier}
+use Rattle.sol_tree.specs.declared.file.ModifierSpecifier.{ModifierSpecifier}
+use Rattle.sol_parser.specs.Grammar.{Separated, MaySeparated, Repeated, Enclosed, SpellsName, SpellsBase, SpellsOverride, SpellsVarSpecifier, SpellsFunSpecifier, SpellsConstructorSpecifier, SpellsModifierSpecifier, SpellsParam, MayIndexed, SpellsEventParam, MayReturns, SpellsBody, MayParams}
+use Rattle.sol_parser.specs.Heights.{greatest_by, may_by, base_height, param_height, event_param_height, fun_specifier_height, constructor_specifier_height}
+use Rattle.sol_parser.specs.Reading.{separated_at, enclosed_at, named_at, may_word_at, base_at, names_at, override_at, var_specifier_at, plain_specifier_at, fun_specifier_at, constructor_specifier_at, modifier_specifier_at, param_at, event_param_at, may_returns_at, body_at, may_params_at}
 use Rattle.sol_parser.proofs.SoundLists.{Sound, sound-separated, sound-enclosed}
 use Rattle.sol_parser.proofs.Statements.{sound-block, sound-arguments, sound-initial}
 
@@ -60,53 +60,53 @@ sound-override d ts =
     (w ∷ (o ∷ ns), record { spells = rw (r.all) (SpellsOverride.listed w o r.closing iw io r.spelled r.closes); height = refl; low = omega arith }, refl)))
     (w ∷ [], record { spells = SpellsOverride.alone w iw; height = refl; low = omega arith }, refl))
 
--- ---- marks
+-- ---- specifiers
 
-pub sound-var_mark : (d : ℕ) → Sound flat SpellsVarMark d var_mark_at
-unfolding var_mark_at
-sound-var_mark d ts =
-    if-word (codes "public") ts _ _ (Front (Read flat SpellsVarMark d)) (λ w us i. (w ∷ [], record { spells = SpellsVarMark.is_public w i; height = refl; low = omega arith }, refl)) (
-    if-word (codes "internal") ts _ _ (Front (Read flat SpellsVarMark d)) (λ w us i. (w ∷ [], record { spells = SpellsVarMark.is_internal w i; height = refl; low = omega arith }, refl)) (
-    if-word (codes "private") ts _ _ (Front (Read flat SpellsVarMark d)) (λ w us i. (w ∷ [], record { spells = SpellsVarMark.is_private w i; height = refl; low = omega arith }, refl)) (
-    if-word (codes "constant") ts _ _ (Front (Read flat SpellsVarMark d)) (λ w us i. (w ∷ [], record { spells = SpellsVarMark.is_constant w i; height = refl; low = omega arith }, refl)) (
-    if-word (codes "immutable") ts _ _ (Front (Read flat SpellsVarMark d)) (λ w us i. (w ∷ [], record { spells = SpellsVarMark.is_immutable w i; height = refl; low = omega arith }, refl)) (
-    after-tree (override_at ts) _ (Front (Read flat SpellsVarMark d)) (Read flat SpellsOverride d) ts (sound-override d ts) (λ o h us rest r.
-    (us, record { spells = SpellsVarMark.overrides r.spells; height = refl; low = omega arith }, refl)))))))
+pub sound-var_specifier : (d : ℕ) → Sound flat SpellsVarSpecifier d var_specifier_at
+unfolding var_specifier_at
+sound-var_specifier d ts =
+    if-word (codes "public") ts _ _ (Front (Read flat SpellsVarSpecifier d)) (λ w us i. (w ∷ [], record { spells = SpellsVarSpecifier.is_public w i; height = refl; low = omega arith }, refl)) (
+    if-word (codes "internal") ts _ _ (Front (Read flat SpellsVarSpecifier d)) (λ w us i. (w ∷ [], record { spells = SpellsVarSpecifier.is_internal w i; height = refl; low = omega arith }, refl)) (
+    if-word (codes "private") ts _ _ (Front (Read flat SpellsVarSpecifier d)) (λ w us i. (w ∷ [], record { spells = SpellsVarSpecifier.is_private w i; height = refl; low = omega arith }, refl)) (
+    if-word (codes "constant") ts _ _ (Front (Read flat SpellsVarSpecifier d)) (λ w us i. (w ∷ [], record { spells = SpellsVarSpecifier.is_constant w i; height = refl; low = omega arith }, refl)) (
+    if-word (codes "immutable") ts _ _ (Front (Read flat SpellsVarSpecifier d)) (λ w us i. (w ∷ [], record { spells = SpellsVarSpecifier.is_immutable w i; height = refl; low = omega arith }, refl)) (
+    after-tree (override_at ts) _ (Front (Read flat SpellsVarSpecifier d)) (Read flat SpellsOverride d) ts (sound-override d ts) (λ o h us rest r.
+    (us, record { spells = SpellsVarSpecifier.overrides r.spells; height = refl; low = omega arith }, refl)))))))
 
-sound-plain_mark : (d : ℕ) → Sound fun_mark_height SpellsFunMark d plain_mark_at
-unfolding plain_mark_at
-sound-plain_mark d ts =
-    if-word (codes "public") ts _ _ (Front (Read fun_mark_height SpellsFunMark d)) (λ w us i. (w ∷ [], record { spells = SpellsFunMark.is_public w i; height = refl; low = omega arith }, refl)) (
-    if-word (codes "external") ts _ _ (Front (Read fun_mark_height SpellsFunMark d)) (λ w us i. (w ∷ [], record { spells = SpellsFunMark.is_external w i; height = refl; low = omega arith }, refl)) (
-    if-word (codes "internal") ts _ _ (Front (Read fun_mark_height SpellsFunMark d)) (λ w us i. (w ∷ [], record { spells = SpellsFunMark.is_internal w i; height = refl; low = omega arith }, refl)) (
-    if-word (codes "private") ts _ _ (Front (Read fun_mark_height SpellsFunMark d)) (λ w us i. (w ∷ [], record { spells = SpellsFunMark.is_private w i; height = refl; low = omega arith }, refl)) (
-    if-word (codes "view") ts _ _ (Front (Read fun_mark_height SpellsFunMark d)) (λ w us i. (w ∷ [], record { spells = SpellsFunMark.is_view w i; height = refl; low = omega arith }, refl)) (
-    if-word (codes "pure") ts _ _ (Front (Read fun_mark_height SpellsFunMark d)) (λ w us i. (w ∷ [], record { spells = SpellsFunMark.is_pure w i; height = refl; low = omega arith }, refl)) (
-    after-word (codes "virtual") ts _ (Front (Read fun_mark_height SpellsFunMark d)) (λ w us i. (w ∷ [], record { spells = SpellsFunMark.is_virtual w i; height = refl; low = omega arith }, refl))))))))
+sound-plain_specifier : (d : ℕ) → Sound fun_specifier_height SpellsFunSpecifier d plain_specifier_at
+unfolding plain_specifier_at
+sound-plain_specifier d ts =
+    if-word (codes "public") ts _ _ (Front (Read fun_specifier_height SpellsFunSpecifier d)) (λ w us i. (w ∷ [], record { spells = SpellsFunSpecifier.is_public w i; height = refl; low = omega arith }, refl)) (
+    if-word (codes "external") ts _ _ (Front (Read fun_specifier_height SpellsFunSpecifier d)) (λ w us i. (w ∷ [], record { spells = SpellsFunSpecifier.is_external w i; height = refl; low = omega arith }, refl)) (
+    if-word (codes "internal") ts _ _ (Front (Read fun_specifier_height SpellsFunSpecifier d)) (λ w us i. (w ∷ [], record { spells = SpellsFunSpecifier.is_internal w i; height = refl; low = omega arith }, refl)) (
+    if-word (codes "private") ts _ _ (Front (Read fun_specifier_height SpellsFunSpecifier d)) (λ w us i. (w ∷ [], record { spells = SpellsFunSpecifier.is_private w i; height = refl; low = omega arith }, refl)) (
+    if-word (codes "view") ts _ _ (Front (Read fun_specifier_height SpellsFunSpecifier d)) (λ w us i. (w ∷ [], record { spells = SpellsFunSpecifier.is_view w i; height = refl; low = omega arith }, refl)) (
+    if-word (codes "pure") ts _ _ (Front (Read fun_specifier_height SpellsFunSpecifier d)) (λ w us i. (w ∷ [], record { spells = SpellsFunSpecifier.is_pure w i; height = refl; low = omega arith }, refl)) (
+    after-word (codes "virtual") ts _ (Front (Read fun_specifier_height SpellsFunSpecifier d)) (λ w us i. (w ∷ [], record { spells = SpellsFunSpecifier.is_virtual w i; height = refl; low = omega arith }, refl))))))))
 
-pub sound-fun_mark : (d : ℕ) → Sound fun_mark_height SpellsFunMark d (fun_mark_at d)
-unfolding fun_mark_at
-sound-fun_mark d ts =
-    either-tree (plain_mark_at ts) _ (Front (Read fun_mark_height SpellsFunMark d)) ts (sound-plain_mark d ts) (
-    if-tree (override_at ts) _ _ (Front (Read fun_mark_height SpellsFunMark d)) (Read flat SpellsOverride d) ts (sound-override d ts) (λ o h us rest r.
-    (us, record { spells = SpellsFunMark.overrides r.spells; height = refl; low = omega arith }, refl)) (
-    after-tree (base_at d ts) _ (Front (Read fun_mark_height SpellsFunMark d)) (Read base_height SpellsBase d) ts (sound-base d ts) (λ x h us rest r.
-    (us, record { spells = SpellsFunMark.uses r.spells; height = r.height; low = r.low }, refl))))
+pub sound-fun_specifier : (d : ℕ) → Sound fun_specifier_height SpellsFunSpecifier d (fun_specifier_at d)
+unfolding fun_specifier_at
+sound-fun_specifier d ts =
+    either-tree (plain_specifier_at ts) _ (Front (Read fun_specifier_height SpellsFunSpecifier d)) ts (sound-plain_specifier d ts) (
+    if-tree (override_at ts) _ _ (Front (Read fun_specifier_height SpellsFunSpecifier d)) (Read flat SpellsOverride d) ts (sound-override d ts) (λ o h us rest r.
+    (us, record { spells = SpellsFunSpecifier.overrides r.spells; height = refl; low = omega arith }, refl)) (
+    after-tree (base_at d ts) _ (Front (Read fun_specifier_height SpellsFunSpecifier d)) (Read base_height SpellsBase d) ts (sound-base d ts) (λ x h us rest r.
+    (us, record { spells = SpellsFunSpecifier.uses r.spells; height = r.height; low = r.low }, refl))))
 
-pub sound-constructor_mark : (d : ℕ) → Sound constructor_mark_height SpellsConstructorMark d (constructor_mark_at d)
-unfolding constructor_mark_at
-sound-constructor_mark d ts =
-    if-word (codes "public") ts _ _ (Front (Read constructor_mark_height SpellsConstructorMark d)) (λ w us i. (w ∷ [], record { spells = SpellsConstructorMark.is_public w i; height = refl; low = omega arith }, refl)) (
-    if-word (codes "internal") ts _ _ (Front (Read constructor_mark_height SpellsConstructorMark d)) (λ w us i. (w ∷ [], record { spells = SpellsConstructorMark.is_internal w i; height = refl; low = omega arith }, refl)) (
-    after-tree (base_at d ts) _ (Front (Read constructor_mark_height SpellsConstructorMark d)) (Read base_height SpellsBase d) ts (sound-base d ts) (λ x h us rest r.
-    (us, record { spells = SpellsConstructorMark.uses r.spells; height = r.height; low = r.low }, refl))))
+pub sound-constructor_specifier : (d : ℕ) → Sound constructor_specifier_height SpellsConstructorSpecifier d (constructor_specifier_at d)
+unfolding constructor_specifier_at
+sound-constructor_specifier d ts =
+    if-word (codes "public") ts _ _ (Front (Read constructor_specifier_height SpellsConstructorSpecifier d)) (λ w us i. (w ∷ [], record { spells = SpellsConstructorSpecifier.is_public w i; height = refl; low = omega arith }, refl)) (
+    if-word (codes "internal") ts _ _ (Front (Read constructor_specifier_height SpellsConstructorSpecifier d)) (λ w us i. (w ∷ [], record { spells = SpellsConstructorSpecifier.is_internal w i; height = refl; low = omega arith }, refl)) (
+    after-tree (base_at d ts) _ (Front (Read constructor_specifier_height SpellsConstructorSpecifier d)) (Read base_height SpellsBase d) ts (sound-base d ts) (λ x h us rest r.
+    (us, record { spells = SpellsConstructorSpecifier.uses r.spells; height = r.height; low = r.low }, refl))))
 
-pub sound-modifier_mark : (d : ℕ) → Sound flat SpellsModifierMark d modifier_mark_at
-unfolding modifier_mark_at
-sound-modifier_mark d ts =
-    if-word (codes "virtual") ts _ _ (Front (Read flat SpellsModifierMark d)) (λ w us i. (w ∷ [], record { spells = SpellsModifierMark.is_virtual w i; height = refl; low = omega arith }, refl)) (
-    after-tree (override_at ts) _ (Front (Read flat SpellsModifierMark d)) (Read flat SpellsOverride d) ts (sound-override d ts) (λ o h us rest r.
-    (us, record { spells = SpellsModifierMark.overrides r.spells; height = refl; low = omega arith }, refl)))
+pub sound-modifier_specifier : (d : ℕ) → Sound flat SpellsModifierSpecifier d modifier_specifier_at
+unfolding modifier_specifier_at
+sound-modifier_specifier d ts =
+    if-word (codes "virtual") ts _ _ (Front (Read flat SpellsModifierSpecifier d)) (λ w us i. (w ∷ [], record { spells = SpellsModifierSpecifier.is_virtual w i; height = refl; low = omega arith }, refl)) (
+    after-tree (override_at ts) _ (Front (Read flat SpellsModifierSpecifier d)) (Read flat SpellsOverride d) ts (sound-override d ts) (λ o h us rest r.
+    (us, record { spells = SpellsModifierSpecifier.overrides r.spells; height = refl; low = omega arith }, refl)))
 
 -- ---- parameters and bodies
 

@@ -9,12 +9,12 @@ use Rattle.sol_parse_stmt.specs.Grammar.{MayInitial, SpellsArguments, SpellsBloc
 use Rattle.sol_parse_stmt.specs.Heights.{arguments_height, initial_height, block_height}
 use Rattle.sol_parse_stmt.specs.Reading.{block_at, arguments_at, may_initial_at}
 use Rattle.sol_parse_stmt.proofs.Laws.{block-read, arguments-read, initial-read, initial-all}
-use Rattle.sol_parser.proofs.Heads.{mark-mark}
+use Rattle.sol_parse_expr.proofs.First.{mark-mark}
 use Rattle.sol_parser.proofs.SoundLists.{Sound}
 
-from-read : {A : Type 0} (levels : A → ℕ) (P : A → List Token → Type 0) (d : ℕ) (ts : List Token) (r : Option (A × ℕ × List Token)) → ((a : A) (h : ℕ) (rest : List Token) → ◌≡◌ {A = Option (A × ℕ × List Token)} r (Some (a, h, rest)) → (us : List Token) × P a us × (ts ≡ us ++ rest) × (levels a ≡ h) × (h ≤ d)) → Holds (Front (Read levels P d)) ts r
-from-read levels P d ts None f = tt
-from-read levels P d ts (Some x) f = let g = f x.0 x.1 x.2 refl in (g.0, record { spells = g.1; height = g.3; low = g.4 }, g.2)
+from-read : {A : Type 0} (height_of : A → ℕ) (P : A → List Token → Type 0) (d : ℕ) (ts : List Token) (r : Option (A × ℕ × List Token)) → ((a : A) (h : ℕ) (rest : List Token) → ◌≡◌ {A = Option (A × ℕ × List Token)} r (Some (a, h, rest)) → (us : List Token) × P a us × (ts ≡ us ++ rest) × (height_of a ≡ h) × (h ≤ d)) → Holds (Front (Read height_of P d)) ts r
+from-read height_of P d ts None f = tt
+from-read height_of P d ts (Some x) f = let g = f x.0 x.1 x.2 refl in (g.0, record { spells = g.1; height = g.3; low = g.4 }, g.2)
 
 pub sound-block : (d : ℕ) → Sound block_height SpellsBlock d (block_at d)
 sound-block d ts = from-read block_height SpellsBlock d ts (block_at d ts) (block-read d ts)

@@ -13,8 +13,8 @@ use Rattle.sol_parser.specs.Grammar.{Repeated, SpellsBase, SpellsEvent, SpellsEr
 use Rattle.sol_parser.specs.Heights.{greatest_by, base_height, member_height, event_height, error_height, unit_height, file_height}
 use Rattle.sol_parser.specs.Reading.{many_at, base_at, member_at, event_at, error_at, may_bases_at, outline_at, contract_at, abstract_at, interface_at, unit_at, file_at}
 use Rattle.sol_parser.proofs.WholeLists.{Whole, Filled, whole-many, whole-separated}
-use Rattle.sol_parser.proofs.Heads.{WordFirst, MarkFirst, word-word, word-mark, mark-mark}
-use Rattle.sol_parser.proofs.WholeMarks.{Anything, NoOpen, whole-base}
+use Rattle.sol_parse_expr.proofs.First.{WordFirst, MarkFirst, word-word, word-mark, mark-mark}
+use Rattle.sol_parser.proofs.WholeSpecifiers.{Anything, NoOpen, whole-base}
 use Rattle.sol_parser.proofs.WholeMembers.{whole-event, whole-error, event-none, event-first, error-first, member-mark, whole-member, filled-member}
 
 -- ---- contracts and interfaces

@@ -7,8 +7,8 @@ use Rattle.sol_tree.specs.declared.types.Identifier.{Identifier}
 use Rattle.sol_tree.specs.declared.types.Type as types
 use Rattle.sol_tree.specs.declared.expr.Initial.{Initial}
 use Rattle.sol_tree.specs.declared.stmt.Block.{Block}
-use Rattle.sol_tree.specs.declared.file.VarMark.{VarMark}
-use Rattle.sol_tree.specs.declared.file.ModifierMark.{ModifierMark}
+use Rattle.sol_tree.specs.declared.file.VarSpecifier.{VarSpecifier}
+use Rattle.sol_tree.specs.declared.file.ModifierSpecifier.{ModifierSpecifier}
 use Rattle.sol_tree.specs.declared.file.Param.{Param}
 use Rattle.sol_tree.specs.declared.file.Var.{Var}
 use Rattle.sol_tree.specs.declared.file.Fun.{Fun}
@@ -27,14 +27,15 @@ use Rattle.sol_parse_stmt.specs.Grammar.{MayInitial, SpellsBlock}
 use Rattle.sol_parse_stmt.specs.Heights.{initial_height, block_height}
 use Rattle.sol_parse_stmt.specs.Reading.{block_at, may_initial_at}
 use Rattle.sol_parse_stmt.proofs.Laws.{block-all}
-use Rattle.sol_parser.specs.Grammar.{Repeated, Enclosed, SpellsVarMark, SpellsFunMark, SpellsConstructorMark, SpellsModifierMark, SpellsParam, MayReturns, SpellsBody, MayParams, MayAnonymous, SpellsVar, SpellsFun, SpellsConstructor, SpellsModifier, SpellsEvent, SpellsError, SpellsMember}
-use Rattle.sol_parser.specs.Heights.{greatest_by, may_by, param_height, fun_mark_height, constructor_mark_height, var_height, fun_height, constructor_height, modifier_height, event_height, error_height, member_height}
-use Rattle.sol_parser.specs.Reading.{many_at, enclosed_at, may_word_at, var_mark_at, fun_mark_at, constructor_mark_at, modifier_mark_at, param_at, may_returns_at, body_at, may_params_at, var_at, fun_at, constructor_at, modifier_at, event_at, error_at, member_at}
+use Rattle.sol_parser.specs.Grammar.{Repeated, Enclosed, SpellsVarSpecifier, SpellsFunSpecifier, SpellsConstructorSpecifier, SpellsModifierSpecifier, SpellsParam, MayReturns, SpellsBody, MayParams, MayAnonymous, SpellsVar, SpellsFun, SpellsConstructor, SpellsModifier, SpellsEvent, SpellsError, SpellsMember}
+use Rattle.sol_parser.specs.Heights.{greatest_by, may_by, param_height, fun_specifier_height, constructor_specifier_height, var_height, fun_height, constructor_height, modifier_height, event_height, error_height, member_height}
+use Rattle.sol_parser.specs.Reading.{many_at, enclosed_at, may_word_at, var_specifier_at, fun_specifier_at, constructor_specifier_at, modifier_specifier_at, param_at, may_returns_at, body_at, may_params_at, var_at, fun_at, constructor_at, modifier_at, event_at, error_at, member_at}
 use Rattle.sol_parser.proofs.WholeLists.{Whole, Filled, follows, whole-many}
 use Rattle.sol_parser.proofs.Statements.{initial-closed}
 use Rattle.sol_parser.proofs.SoundParts.{flat}
-use Rattle.sol_parser.proofs.Heads.{WordFirst, NameFirst, MarkFirst, word-word, word-name, word-mark, mark-word, mark-name, mark-mark, name-word, name-mark, brackets-none, type-mark, word-type, no_name-returns, no_name-function, no_name-constructor, no_name-modifier, no_name-event, no_type-function, no_type-constructor, no_type-modifier, no_type-event, no_type-error}
-use Rattle.sol_parser.proofs.WholeMarks.{Anything, NoOpen, whole-var_mark, begins-var_mark, filled-var_mark, var_mark-no_name, var_mark-name, whole-fun_mark, begins-fun_mark, filled-fun_mark, fun_mark-mark, fun_mark-returns, whole-constructor_mark, begins-constructor_mark, filled-constructor_mark, constructor_mark-mark, whole-modifier_mark, begins-modifier_mark, filled-modifier_mark, modifier_mark-mark}
+use Rattle.sol_parse_expr.proofs.First.{WordFirst, NameFirst, MarkFirst, word-word, word-name, word-mark, mark-word, mark-name, mark-mark, name-word, name-mark, brackets-none, type-mark, type-no_word}
+use Rattle.sol_parse_expr.proofs.Keywords.{Keyword, keyword}
+use Rattle.sol_parser.proofs.WholeSpecifiers.{Anything, NoOpen, whole-var_specifier, begins-var_specifier, filled-var_specifier, var_specifier-no_name, var_specifier-name, whole-fun_specifier, begins-fun_specifier, filled-fun_specifier, fun_specifier-mark, fun_specifier-returns, whole-constructor_specifier, begins-constructor_specifier, filled-constructor_specifier, constructor_specifier-mark, whole-modifier_specifier, begins-modifier_specifier, filled-modifier_specifier, modifier_specifier-mark}
 use Rattle.sol_parser.proofs.WholeParts.{enclosed-none, whole-params, whole-event_params, whole-may_returns, whole-may_params, whole-body, body-first, block-first, word-absent, word-present}
 
 -- ---- variables
@@ -47,22 +48,22 @@ whole-var d x us (SpellsVar.var {ty} {vs} {n} {i} m e {ts} {us = ms} {is} p r im
     let name : NameFirst t2 = (m, n, is ++ t4, im, refl) in
     let all : (ts ++ (ms ++ (m ∷ (is ++ (e ∷ []))))) ++ rest ≡ ts ++ (ms ++ t2) = simp append_assoc refl in
     let small : greatest_by flat vs ≤ greatest_by flat vs = omega arith in
-    let quiet = follows SpellsVarMark (λ w. mark_at (codes "[") w ≡ None) (begins-var_mark (codes "[")) vs ms r t2 (mark-name (codes "[") t2 name) in
+    let quiet = follows SpellsVarSpecifier (λ w. mark_at (codes "[") w ≡ None) (begins-var_specifier (codes "[")) vs ms r t2 (mark-name (codes "[") t2 name) in
     let ty_read = type-all p d (omega (arith, low)) (ms ++ t2) (brackets-none (ms ++ t2) quiet) in
-    let marks_read = whole-many flat SpellsVarMark (greatest_by flat vs) var_mark_at NoOpen (whole-var_mark (greatest_by flat vs)) (begins-var_mark (codes "(")) filled-var_mark vs ms r small t2 (mark-name (codes "(") t2 name) (var_mark-name t2 name) in
+    let specifiers_read = whole-many flat SpellsVarSpecifier (greatest_by flat vs) var_specifier_at NoOpen (whole-var_specifier (greatest_by flat vs)) (begins-var_specifier (codes "(")) filled-var_specifier vs ms r small t2 (mark-name (codes "(") t2 name) (var_specifier-name t2 name) in
     let initial_read = initial-closed i is ip d (omega (arith, low)) e rest ie in
-    rw all (rw (ty_read, marks_read, name-here n m (is ++ t4) im, initial_read, mark-here (codes ";") e rest ie) refl)
+    rw all (rw (ty_read, specifiers_read, name-here n m (is ++ t4) im, initial_read, mark-here (codes ";") e rest ie) refl)
 
 -- ---- functions
 
--- what stands after the marks of a function
-marks-end : (d : ℕ) (r : Option Param) (rts : List Token) → MayReturns r rts → (x : Option Block) (bts : List Token) → SpellsBody x bts → (rest : List Token) → NoOpen (rts ++ (bts ++ rest)) × (fun_mark_at d (rts ++ (bts ++ rest)) ≡ None)
-marks-end d r rts MayReturns.nothing x bts p rest =
+-- what stands after the specifiers of a function
+specifiers-end : (d : ℕ) (r : Option Param) (rts : List Token) → MayReturns r rts → (x : Option Block) (bts : List Token) → SpellsBody x bts → (rest : List Token) → NoOpen (rts ++ (bts ++ rest)) × (fun_specifier_at d (rts ++ (bts ++ rest)) ≡ None)
+specifiers-end d r rts MayReturns.nothing x bts p rest =
     let f = body-first x bts p rest in
-    (mark-mark (codes "(") f.0 (bts ++ rest) f.2 f.1, fun_mark-mark d f.0 (bts ++ rest) f.1)
-marks-end d r rts (MayReturns.returns w o c iw io q ic) x bts p rest =
+    (mark-mark (codes "(") f.0 (bts ++ rest) f.2 f.1, fun_specifier-mark d f.0 (bts ++ rest) f.1)
+specifiers-end d r rts (MayReturns.returns w o c iw io q ic) x bts p rest =
     let f : WordFirst (codes "returns") (rts ++ (bts ++ rest)) = (w, _, iw, refl) in
-    (mark-word (codes "(") (codes "returns") (rts ++ (bts ++ rest)) f, fun_mark-returns d (rts ++ (bts ++ rest)) no_name-returns f)
+    (mark-word (codes "(") (codes "returns") (rts ++ (bts ++ rest)) f, fun_specifier-returns d (rts ++ (bts ++ rest)) f)
 
 body-no_returns : (x : Option Block) (bts : List Token) → SpellsBody x bts → (rest : List Token) → word_at (codes "returns") (bts ++ rest) ≡ None
 body-no_returns x bts p rest = let f = body-first x bts p rest in word-mark (codes "returns") f.0 (bts ++ rest) f.1
@@ -74,12 +75,12 @@ whole-fun d x us (SpellsFun.fun {n} {ps} {ms} {r} {b = y} w m {pts} {mts} {rts} 
     let t4 : List Token = rts ++ t5 in
     let t3 : List Token = mts ++ t4 in
     let all : (pts ++ (mts ++ (rts ++ bts))) ++ rest ≡ pts ++ t3 = simp append_assoc refl in
-    let last = marks-end d r rts pr y bts pb rest in
+    let last = specifiers-end d r rts pr y bts pb rest in
     let params_read = whole-params d ps pts pp (omega (arith, low)) t3 in
-    let marks_read = whole-many fun_mark_height SpellsFunMark d (fun_mark_at d) NoOpen (whole-fun_mark d) (begins-fun_mark (codes "(")) filled-fun_mark ms mts pm (omega (arith, low)) t4 (last.0) (last.1) in
+    let specifiers_read = whole-many fun_specifier_height SpellsFunSpecifier d (fun_specifier_at d) NoOpen (whole-fun_specifier d) (begins-fun_specifier (codes "(")) filled-fun_specifier ms mts pm (omega (arith, low)) t4 (last.0) (last.1) in
     let returns_read = whole-may_returns d r rts pr (omega (arith, low)) t5 (body-no_returns y bts pb rest) in
     let body_read = whole-body d y bts pb (omega (arith, low)) rest tt in
-    rw all (rw (word-here (codes "function") w (m ∷ (pts ++ t3)) iw, name-here n m (pts ++ t3) im, params_read, marks_read, returns_read, body_read) refl)
+    rw all (rw (word-here (codes "function") w (m ∷ (pts ++ t3)) iw, name-here n m (pts ++ t3) im, params_read, specifiers_read, returns_read, body_read) refl)
 
 -- ---- constructors and modifiers
 
@@ -91,9 +92,9 @@ whole-constructor d x us (SpellsConstructor.constructed {ps} {ms} {b = y} w {pts
     let all : (pts ++ (mts ++ bts)) ++ rest ≡ pts ++ t2 = simp append_assoc refl in
     let first = block-first y bts pb rest in
     let params_read = whole-params d ps pts pp (omega (arith, low)) t2 in
-    let marks_read = whole-many constructor_mark_height SpellsConstructorMark d (constructor_mark_at d) NoOpen (whole-constructor_mark d) (begins-constructor_mark (codes "(")) filled-constructor_mark ms mts pm (omega (arith, low)) t3 (mark-mark (codes "(") (codes "{") t3 refl first) (constructor_mark-mark d (codes "{") t3 first) in
+    let specifiers_read = whole-many constructor_specifier_height SpellsConstructorSpecifier d (constructor_specifier_at d) NoOpen (whole-constructor_specifier d) (begins-constructor_specifier (codes "(")) filled-constructor_specifier ms mts pm (omega (arith, low)) t3 (mark-mark (codes "(") (codes "{") t3 refl first) (constructor_specifier-mark d (codes "{") t3 first) in
     let body_read = block-all pb d (omega (arith, low)) rest in
-    rw all (rw (word-here (codes "constructor") w (pts ++ t2) iw, params_read, marks_read, body_read) refl)
+    rw all (rw (word-here (codes "constructor") w (pts ++ t2) iw, params_read, specifiers_read, body_read) refl)
 
 whole-modifier : (d : ℕ) → Whole modifier_height SpellsModifier (suc d) (modifier_at d) Anything
 unfolding modifier_at
@@ -104,11 +105,11 @@ whole-modifier d x us (SpellsModifier.modified {n} {ps} {ms} {b = y} w m {pts} {
     let first = body-first y bts pb rest in
     let small : greatest_by flat ms ≤ greatest_by flat ms = omega arith in
     let apart : NoOpen t4 = mark-mark (codes "(") first.0 t4 first.2 first.1 in
-    let quiet : NoOpen t3 = follows SpellsModifierMark NoOpen (begins-modifier_mark (codes "(")) ms mts pm t4 apart in
+    let quiet : NoOpen t3 = follows SpellsModifierSpecifier NoOpen (begins-modifier_specifier (codes "(")) ms mts pm t4 apart in
     let params_read = whole-may_params d ps pts pp (omega (arith, low)) t3 quiet in
-    let marks_read = whole-many flat SpellsModifierMark (greatest_by flat ms) modifier_mark_at NoOpen (whole-modifier_mark (greatest_by flat ms)) (begins-modifier_mark (codes "(")) filled-modifier_mark ms mts pm small t4 apart (modifier_mark-mark first.0 t4 first.1) in
+    let specifiers_read = whole-many flat SpellsModifierSpecifier (greatest_by flat ms) modifier_specifier_at NoOpen (whole-modifier_specifier (greatest_by flat ms)) (begins-modifier_specifier (codes "(")) filled-modifier_specifier ms mts pm small t4 apart (modifier_specifier-mark first.0 t4 first.1) in
     let body_read = whole-body d y bts pb (omega (arith, low)) rest tt in
-    rw all (rw (word-here (codes "modifier") w (m ∷ (pts ++ t3)) iw, name-here n m (pts ++ t3) im, params_read, marks_read, body_read) refl)
+    rw all (rw (word-here (codes "modifier") w (m ∷ (pts ++ t3)) iw, name-here n m (pts ++ t3) im, params_read, specifiers_read, body_read) refl)
 
 -- ---- events and errors
 
@@ -180,8 +181,8 @@ error-first x us (SpellsError.error w m e iw im pp ie) rest = (w, _, iw, refl)
 
 -- ---- a variable begins no other member
 
-var-word : (w : List ℕ) → elementary_type w ≡ None → is_name w ≡ false → bytes_eq (codes "mapping") w ≡ false → (x : Var) (us : List Token) → SpellsVar x us → (rest : List Token) → word_at w (us ++ rest) ≡ None
-var-word w p q r x us (SpellsVar.var m e {ts} {us = ms} {is} pt pm im pi ie) rest = rw append_assoc (word-type w p q r pt ((ms ++ (m ∷ (is ++ (e ∷ [])))) ++ rest))
+var-word : (w : List ℕ) → bytes_eq w (codes "mapping") ≡ false → Keyword w → (x : Var) (us : List Token) → SpellsVar x us → (rest : List Token) → word_at w (us ++ rest) ≡ None
+var-word w q k x us (SpellsVar.var m e {ts} {us = ms} {is} pt pm im pi ie) rest = rw append_assoc (type-no_word w q k pt ((ms ++ (m ∷ (is ++ (e ∷ [])))) ++ rest))
 
 -- no name and `(` stand here
 abbrev NoCall : List Token → Type 0
@@ -198,8 +199,12 @@ no-call d t ts n = elim (test (is_word (codes "error") t.kind)) [
   | inr b ↦ rw b refl
 ]
 
+error-no_type : elementary_type (codes "error") ≡ None
+unfolding elementary_type
+error-no_type = refl
+
 type-no_error : (d : ℕ) {t : types.Type} {us : List Token} → SpellsType t us → (rest : List Token) → NoCall rest → error_at d (us ++ rest) ≡ None
-type-no_error d (SpellsType.elementary {ty} t i) rest n = error-none d (t ∷ rest) (word-not (codes "error") (kind.Word i.text) t rest i.word (type-differs i.text (codes "error") ty i.named no_type-error))
+type-no_error d (SpellsType.elementary {ty} t i) rest n = error-none d (t ∷ rest) (word-not (codes "error") (kind.Word i.text) t rest i.word (type-differs i.text (codes "error") ty i.named error-no_type))
 type-no_error d (SpellsType.named t i) rest n = no-call d t rest n
 type-no_error d (SpellsType.array o c s io ic) rest n = rw append_assoc (type-no_error d s (o ∷ (c ∷ rest)) (inl (name-mark (codes "[") (o ∷ (c ∷ rest)) (o, c ∷ rest, io, refl))))
 type-no_error d (SpellsType.mapping m o a c hw ho sk si ha sv sj hc) rest n = error-none d _ (word-not (codes "error") (kind.Word (codes "mapping")) m _ hw refl)
@@ -208,16 +213,16 @@ initial-no_open : (i : Option Initial) (is : List Token) → MayInitial i is →
 initial-no_open i is MayInitial.without e rest ie = mark-mark (codes "(") (codes ";") (e ∷ rest) refl (e, rest, ie, refl)
 initial-no_open i is (MayInitial.initial t {ts} it p) e rest ie = mark-mark (codes "(") (codes "=") (t ∷ (ts ++ (e ∷ rest))) refl (t, ts ++ (e ∷ rest), it, refl)
 
-marks-no_call : (vs : List VarMark) (us : List Token) → Repeated SpellsVarMark vs us → (rest : List Token) → NoCall rest → NoCall (us ++ rest)
-marks-no_call vs us Repeated.ended rest n = n
-marks-no_call vs us (Repeated.another {x} {ts = ts} {us = ws} p q) rest n = inl (rw append_assoc (var_mark-no_name x ts p (ws ++ rest)))
+specifiers-no_call : (vs : List VarSpecifier) (us : List Token) → Repeated SpellsVarSpecifier vs us → (rest : List Token) → NoCall rest → NoCall (us ++ rest)
+specifiers-no_call vs us Repeated.ended rest n = n
+specifiers-no_call vs us (Repeated.another {x} {ts = ts} {us = ws} p q) rest n = inl (rw append_assoc (var_specifier-no_name x ts p (ws ++ rest)))
 
 var-no_error : (d : ℕ) (x : Var) (us : List Token) → SpellsVar x us → (rest : List Token) → error_at d (us ++ rest) ≡ None
 var-no_error d x us (SpellsVar.var {vs = vs} {n} {i} m e {ts} {us = ms} {is} pt pm im pi ie) rest =
     let t2 : List Token = m ∷ (is ++ (e ∷ rest)) in
     let all : (ts ++ (ms ++ (m ∷ (is ++ (e ∷ []))))) ++ rest ≡ ts ++ (ms ++ t2) = simp append_assoc refl in
     let named : NoCall t2 = inr (named_by n m, is ++ (e ∷ rest), name-here n m (is ++ (e ∷ rest)) im, initial-no_open i is pi e rest ie) in
-    rw all (type-no_error d pt (ms ++ t2) (marks-no_call vs ms pm t2 named))
+    rw all (type-no_error d pt (ms ++ t2) (specifiers-no_call vs ms pm t2 named))
 
 -- ---- members
 
@@ -237,7 +242,7 @@ whole-member d x us (SpellsMember.error {e = y} p) low rest s =
     let f = error-first y us p rest in
     rw (fun-none d (us ++ rest) (word-word (codes "function") (codes "error") (us ++ rest) refl f), constructor-none d (us ++ rest) (word-word (codes "constructor") (codes "error") (us ++ rest) refl f), modifier-none d (us ++ rest) (word-word (codes "modifier") (codes "error") (us ++ rest) refl f), event-none d (us ++ rest) (word-word (codes "event") (codes "error") (us ++ rest) refl f), whole-error d y us p low rest tt) refl
 whole-member d x us (SpellsMember.var {v = y} p) low rest s =
-    rw (fun-none d (us ++ rest) (var-word (codes "function") no_type-function no_name-function refl y us p rest), constructor-none d (us ++ rest) (var-word (codes "constructor") no_type-constructor no_name-constructor refl y us p rest), modifier-none d (us ++ rest) (var-word (codes "modifier") no_type-modifier no_name-modifier refl y us p rest), event-none d (us ++ rest) (var-word (codes "event") no_type-event no_name-event refl y us p rest), var-no_error d y us p rest, whole-var d y us p low rest tt) refl
+    rw (fun-none d (us ++ rest) (var-word (codes "function") refl (keyword (codes "function") refl) y us p rest), constructor-none d (us ++ rest) (var-word (codes "constructor") refl (keyword (codes "constructor") refl) y us p rest), modifier-none d (us ++ rest) (var-word (codes "modifier") refl (keyword (codes "modifier") refl) y us p rest), event-none d (us ++ rest) (var-word (codes "event") refl (keyword (codes "event") refl) y us p rest), var-no_error d y us p rest, whole-var d y us p low rest tt) refl
 
 filled-var : Filled SpellsVar
 filled-var x us (SpellsVar.var m e {ts} {us = ms} {is} pt pm im pi ie) = simp length-append (omega arith)

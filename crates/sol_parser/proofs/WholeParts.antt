@@ -19,8 +19,8 @@ use Rattle.sol_parser.specs.Grammar.{Enclosed, SpellsParam, MayIndexed, SpellsEv
 use Rattle.sol_parser.specs.Heights.{greatest_by, may_by, param_height, event_param_height}
 use Rattle.sol_parser.specs.Reading.{enclosed_at, may_word_at, param_at, event_param_at, may_returns_at, body_at, may_params_at}
 use Rattle.sol_parser.proofs.WholeLists.{Whole, AtComma, AtClose, NoneAtClose, whole-enclosed}
-use Rattle.sol_parser.proofs.Heads.{WordFirst, NameFirst, MarkFirst, word-word, word-name, word-mark, mark-word, mark-name, mark-mark, name-word, name-mark, brackets-none, type-mark, no_name-indexed}
-use Rattle.sol_parser.proofs.WholeMarks.{Anything, NoOpen}
+use Rattle.sol_parse_expr.proofs.First.{WordFirst, NameFirst, MarkFirst, word-word, word-name, word-mark, mark-word, mark-name, mark-mark, name-word, name-mark, brackets-none, type-mark}
+use Rattle.sol_parser.proofs.WholeSpecifiers.{Anything, NoOpen}
 
 -- ---- parameters
 
@@ -42,7 +42,7 @@ name-brackets i is (MayName.named {n} t g) rest e = brackets-none (t ∷ rest) (
 
 name-indexed : (i : Option Identifier) (is : List Token) → MayName i is → (rest : List Token) → word_at (codes "indexed") rest ≡ None → word_at (codes "indexed") (is ++ rest) ≡ None
 name-indexed i is MayName.unnamed rest e = e
-name-indexed i is (MayName.named {n} t g) rest e = word-name (codes "indexed") (t ∷ rest) no_name-indexed (t, n, rest, g, refl)
+name-indexed i is (MayName.named {n} t g) rest e = word-name (codes "indexed") (t ∷ rest) refl (t, n, rest, g, refl)
 
 pub word-absent : (w : List ℕ) (ts : List Token) → word_at w ts ≡ None → may_word_at w ts ≡ Some (false, ts)
 unfolding may_word_at

@@ -14,18 +14,18 @@ use Rattle.sol_tree.specs.declared.file.Base.{Base}
 use Rattle.sol_tree.specs.declared.file.Member.{Member}
 use Rattle.sol_tree.specs.declared.file.Member.TheVariants as member
 use Rattle.sol_tree.specs.declared.file.Override.{Override}
-use Rattle.sol_tree.specs.declared.file.VarMark.{VarMark}
-use Rattle.sol_tree.specs.declared.file.VarMark.TheVariants as varmark
+use Rattle.sol_tree.specs.declared.file.VarSpecifier.{VarSpecifier}
+use Rattle.sol_tree.specs.declared.file.VarSpecifier.TheVariants as varspecifier
 use Rattle.sol_tree.specs.declared.file.Var.{Var}
 use Rattle.sol_tree.specs.declared.file.Param.{Param}
-use Rattle.sol_tree.specs.declared.file.FunMark.{FunMark}
-use Rattle.sol_tree.specs.declared.file.FunMark.TheVariants as funmark
+use Rattle.sol_tree.specs.declared.file.FunSpecifier.{FunSpecifier}
+use Rattle.sol_tree.specs.declared.file.FunSpecifier.TheVariants as funspecifier
 use Rattle.sol_tree.specs.declared.file.Fun.{Fun}
-use Rattle.sol_tree.specs.declared.file.ConstructorMark.{ConstructorMark}
-use Rattle.sol_tree.specs.declared.file.ConstructorMark.TheVariants as ctormark
+use Rattle.sol_tree.specs.declared.file.ConstructorSpecifier.{ConstructorSpecifier}
+use Rattle.sol_tree.specs.declared.file.ConstructorSpecifier.TheVariants as ctorspecifier
 use Rattle.sol_tree.specs.declared.file.Constructor.{Constructor}
-use Rattle.sol_tree.specs.declared.file.ModifierMark.{ModifierMark}
-use Rattle.sol_tree.specs.declared.file.ModifierMark.TheVariants as modmark
+use Rattle.sol_tree.specs.declared.file.ModifierSpecifier.{ModifierSpecifier}
+use Rattle.sol_tree.specs.declared.file.ModifierSpecifier.TheVariants as modspecifier
 use Rattle.sol_tree.specs.declared.file.Modifier.{Modifier}
 use Rattle.sol_tree.specs.declared.file.EventParam.{EventParam}
 use Rattle.sol_tree.specs.declared.file.Event.{Event}
@@ -71,37 +71,37 @@ pub data SpellsOverride : Override → List Token → Type 0 where
   alone : (w : Token) → IsWord (codes "override") w → SpellsOverride (record { at = w.at; names = [] }) (w ∷ [])
   listed : {is : List Identifier} (w o c : Token) {ts : List Token} → IsWord (codes "override") w → IsMark (codes "(") o → Separated SpellsName is ts → IsMark (codes ")") c → SpellsOverride (record { at = w.at; names = is }) (w ∷ (o ∷ (ts ++ (c ∷ []))))
 
--- a mark of a variable
-pub data SpellsVarMark : VarMark → List Token → Type 0 where
-  is_public : (w : Token) → IsWord (codes "public") w → SpellsVarMark (varmark.Public w.at) (w ∷ [])
-  is_internal : (w : Token) → IsWord (codes "internal") w → SpellsVarMark (varmark.Internal w.at) (w ∷ [])
-  is_private : (w : Token) → IsWord (codes "private") w → SpellsVarMark (varmark.Private w.at) (w ∷ [])
-  is_constant : (w : Token) → IsWord (codes "constant") w → SpellsVarMark (varmark.Constant w.at) (w ∷ [])
-  is_immutable : (w : Token) → IsWord (codes "immutable") w → SpellsVarMark (varmark.Immutable w.at) (w ∷ [])
-  overrides : {o : Override} {ts : List Token} → SpellsOverride o ts → SpellsVarMark (varmark.Override o.at o) ts
+-- a specifier of a variable
+pub data SpellsVarSpecifier : VarSpecifier → List Token → Type 0 where
+  is_public : (w : Token) → IsWord (codes "public") w → SpellsVarSpecifier (varspecifier.Public w.at) (w ∷ [])
+  is_internal : (w : Token) → IsWord (codes "internal") w → SpellsVarSpecifier (varspecifier.Internal w.at) (w ∷ [])
+  is_private : (w : Token) → IsWord (codes "private") w → SpellsVarSpecifier (varspecifier.Private w.at) (w ∷ [])
+  is_constant : (w : Token) → IsWord (codes "constant") w → SpellsVarSpecifier (varspecifier.Constant w.at) (w ∷ [])
+  is_immutable : (w : Token) → IsWord (codes "immutable") w → SpellsVarSpecifier (varspecifier.Immutable w.at) (w ∷ [])
+  overrides : {o : Override} {ts : List Token} → SpellsOverride o ts → SpellsVarSpecifier (varspecifier.Override o.at o) ts
 
--- a mark of a function
-pub data SpellsFunMark : FunMark → List Token → Type 0 where
-  is_public : (w : Token) → IsWord (codes "public") w → SpellsFunMark (funmark.Public w.at) (w ∷ [])
-  is_external : (w : Token) → IsWord (codes "external") w → SpellsFunMark (funmark.External w.at) (w ∷ [])
-  is_internal : (w : Token) → IsWord (codes "internal") w → SpellsFunMark (funmark.Internal w.at) (w ∷ [])
-  is_private : (w : Token) → IsWord (codes "private") w → SpellsFunMark (funmark.Private w.at) (w ∷ [])
-  is_view : (w : Token) → IsWord (codes "view") w → SpellsFunMark (funmark.View w.at) (w ∷ [])
-  is_pure : (w : Token) → IsWord (codes "pure") w → SpellsFunMark (funmark.Pure w.at) (w ∷ [])
-  is_virtual : (w : Token) → IsWord (codes "virtual") w → SpellsFunMark (funmark.Virtual w.at) (w ∷ [])
-  overrides : {o : Override} {ts : List Token} → SpellsOverride o ts → SpellsFunMark (funmark.Override o.at o) ts
-  uses : {b : Base} {ts : List Token} → SpellsBase b ts → SpellsFunMark (funmark.Base b.at b) ts
+-- a specifier of a function
+pub data SpellsFunSpecifier : FunSpecifier → List Token → Type 0 where
+  is_public : (w : Token) → IsWord (codes "public") w → SpellsFunSpecifier (funspecifier.Public w.at) (w ∷ [])
+  is_external : (w : Token) → IsWord (codes "external") w → SpellsFunSpecifier (funspecifier.External w.at) (w ∷ [])
+  is_internal : (w : Token) → IsWord (codes "internal") w → SpellsFunSpecifier (funspecifier.Internal w.at) (w ∷ [])
+  is_private : (w : Token) → IsWord (codes "private") w → SpellsFunSpecifier (funspecifier.Private w.at) (w ∷ [])
+  is_view : (w : Token) → IsWord (codes "view") w → SpellsFunSpecifier (funspecifier.View w.at) (w ∷ [])
+  is_pure : (w : Token) → IsWord (codes "pure") w → SpellsFunSpecifier (funspecifier.Pure w.at) (w ∷ [])
+  is_virtual : (w : Token) → IsWord (codes "virtual") w → SpellsFunSpecifier (funspecifier.Virtual w.at) (w ∷ [])
+  overrides : {o : Override} {ts : List Token} → SpellsOverride o ts → SpellsFunSpecifier (funspecifier.Override o.at o) ts
+  uses : {b : Base} {ts : List Token} → SpellsBase b ts → SpellsFunSpecifier (funspecifier.Base b.at b) ts
 
--- a mark of a constructor
-pub data SpellsConstructorMark : ConstructorMark → List Token → Type 0 where
-  is_public : (w : Token) → IsWord (codes "public") w → SpellsConstructorMark (ctormark.Public w.at) (w ∷ [])
-  is_internal : (w : Token) → IsWord (codes "internal") w → SpellsConstructorMark (ctormark.Internal w.at) (w ∷ [])
-  uses : {b : Base} {ts : List Token} → SpellsBase b ts → SpellsConstructorMark (ctormark.Base b.at b) ts
+-- a specifier of a constructor
+pub data SpellsConstructorSpecifier : ConstructorSpecifier → List Token → Type 0 where
+  is_public : (w : Token) → IsWord (codes "public") w → SpellsConstructorSpecifier (ctorspecifier.Public w.at) (w ∷ [])
+  is_internal : (w : Token) → IsWord (codes "internal") w → SpellsConstructorSpecifier (ctorspecifier.Internal w.at) (w ∷ [])
+  uses : {b : Base} {ts : List Token} → SpellsBase b ts → SpellsConstructorSpecifier (ctorspecifier.Base b.at b) ts
 
--- a mark of a modifier
-pub data SpellsModifierMark : ModifierMark → List Token → Type 0 where
-  is_virtual : (w : Token) → IsWord (codes "virtual") w → SpellsModifierMark (modmark.Virtual w.at) (w ∷ [])
-  overrides : {o : Override} {ts : List Token} → SpellsOverride o ts → SpellsModifierMark (modmark.Override o.at o) ts
+-- a specifier of a modifier
+pub data SpellsModifierSpecifier : ModifierSpecifier → List Token → Type 0 where
+  is_virtual : (w : Token) → IsWord (codes "virtual") w → SpellsModifierSpecifier (modspecifier.Virtual w.at) (w ∷ [])
+  overrides : {o : Override} {ts : List Token} → SpellsOverride o ts → SpellsModifierSpecifier (modspecifier.Override o.at o) ts
 
 -- `type [ID]`
 pub data SpellsParam : Param → List Token → Type 0 where
@@ -128,26 +128,26 @@ pub data SpellsBody : Option Block → List Token → Type 0 where
 
 -- ---- members
 
--- `type {varmark} ID [= expr] ;`
+-- `type {varspecifier} ID [= expr] ;`
 pub data SpellsVar : Var → List Token → Type 0 where
-  var : {ty : types.Type} {vs : List VarMark} {n : List ℕ} {i : Option Initial} (m e : Token) {ts us is : List Token} → SpellsType ty ts → Repeated SpellsVarMark vs us → IsName n m → MayInitial i is → IsMark (codes ";") e → SpellsVar (record { at = type_place_of ty; ty = ty; marks = vs; name = named_by n m; initial = i }) (ts ++ (us ++ (m ∷ (is ++ (e ∷ [])))))
+  var : {ty : types.Type} {vs : List VarSpecifier} {n : List ℕ} {i : Option Initial} (m e : Token) {ts us is : List Token} → SpellsType ty ts → Repeated SpellsVarSpecifier vs us → IsName n m → MayInitial i is → IsMark (codes ";") e → SpellsVar (record { at = type_place_of ty; ty = ty; specifiers = vs; name = named_by n m; initial = i }) (ts ++ (us ++ (m ∷ (is ++ (e ∷ [])))))
 
--- `function ID ( [params] ) {funmark} [returns ( type [ID] )] ( ; | block )`
+-- `function ID ( [params] ) {funspecifier} [returns ( type [ID] )] ( ; | block )`
 pub data SpellsFun : Fun → List Token → Type 0 where
-  fun : {n : List ℕ} {ps : List Param} {ms : List FunMark} {r : Option Param} {b : Option Block} (w m : Token) {pts mts rts bts : List Token} → IsWord (codes "function") w → IsName n m → Enclosed SpellsParam ps pts → Repeated SpellsFunMark ms mts → MayReturns r rts → SpellsBody b bts → SpellsFun (record { at = w.at; name = named_by n m; params = ps; marks = ms; returns = r; body = b }) (w ∷ (m ∷ (pts ++ (mts ++ (rts ++ bts)))))
+  fun : {n : List ℕ} {ps : List Param} {ms : List FunSpecifier} {r : Option Param} {b : Option Block} (w m : Token) {pts mts rts bts : List Token} → IsWord (codes "function") w → IsName n m → Enclosed SpellsParam ps pts → Repeated SpellsFunSpecifier ms mts → MayReturns r rts → SpellsBody b bts → SpellsFun (record { at = w.at; name = named_by n m; params = ps; specifiers = ms; returns = r; body = b }) (w ∷ (m ∷ (pts ++ (mts ++ (rts ++ bts)))))
 
--- `constructor ( [params] ) {mark} block`
+-- `constructor ( [params] ) {specifier} block`
 pub data SpellsConstructor : Constructor → List Token → Type 0 where
-  constructed : {ps : List Param} {ms : List ConstructorMark} {b : Block} (w : Token) {pts mts bts : List Token} → IsWord (codes "constructor") w → Enclosed SpellsParam ps pts → Repeated SpellsConstructorMark ms mts → SpellsBlock b bts → SpellsConstructor (record { at = w.at; params = ps; marks = ms; body = b }) (w ∷ (pts ++ (mts ++ bts)))
+  constructed : {ps : List Param} {ms : List ConstructorSpecifier} {b : Block} (w : Token) {pts mts bts : List Token} → IsWord (codes "constructor") w → Enclosed SpellsParam ps pts → Repeated SpellsConstructorSpecifier ms mts → SpellsBlock b bts → SpellsConstructor (record { at = w.at; params = ps; specifiers = ms; body = b }) (w ∷ (pts ++ (mts ++ bts)))
 
 -- `[( [params] )]`
 pub data MayParams : List Param → List Token → Type 0 where
   without : MayParams [] []
   listed : {ps : List Param} {ts : List Token} → Enclosed SpellsParam ps ts → MayParams ps ts
 
--- `modifier ID [( [params] )] {mark} ( block | ; )`
+-- `modifier ID [( [params] )] {specifier} ( block | ; )`
 pub data SpellsModifier : Modifier → List Token → Type 0 where
-  modified : {n : List ℕ} {ps : List Param} {ms : List ModifierMark} {b : Option Block} (w m : Token) {pts mts bts : List Token} → IsWord (codes "modifier") w → IsName n m → MayParams ps pts → Repeated SpellsModifierMark ms mts → SpellsBody b bts → SpellsModifier (record { at = w.at; name = named_by n m; params = ps; marks = ms; body = b }) (w ∷ (m ∷ (pts ++ (mts ++ bts))))
+  modified : {n : List ℕ} {ps : List Param} {ms : List ModifierSpecifier} {b : Option Block} (w m : Token) {pts mts bts : List Token} → IsWord (codes "modifier") w → IsName n m → MayParams ps pts → Repeated SpellsModifierSpecifier ms mts → SpellsBody b bts → SpellsModifier (record { at = w.at; name = named_by n m; params = ps; specifiers = ms; body = b }) (w ∷ (m ∷ (pts ++ (mts ++ bts))))
 
 -- `[anonymous]`
 pub data MayAnonymous : Bool → List Token → Type 0 where

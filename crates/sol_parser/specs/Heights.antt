@@ -9,11 +9,11 @@ use Rattle.sol_tree.specs.declared.file.Member.{Member}
 use Rattle.sol_tree.specs.declared.file.Member.TheVariants as member
 use Rattle.sol_tree.specs.declared.file.Var.{Var}
 use Rattle.sol_tree.specs.declared.file.Param.{Param}
-use Rattle.sol_tree.specs.declared.file.FunMark.{FunMark}
-use Rattle.sol_tree.specs.declared.file.FunMark.TheVariants as funmark
+use Rattle.sol_tree.specs.declared.file.FunSpecifier.{FunSpecifier}
+use Rattle.sol_tree.specs.declared.file.FunSpecifier.TheVariants as funspecifier
 use Rattle.sol_tree.specs.declared.file.Fun.{Fun}
-use Rattle.sol_tree.specs.declared.file.ConstructorMark.{ConstructorMark}
-use Rattle.sol_tree.specs.declared.file.ConstructorMark.TheVariants as ctormark
+use Rattle.sol_tree.specs.declared.file.ConstructorSpecifier.{ConstructorSpecifier}
+use Rattle.sol_tree.specs.declared.file.ConstructorSpecifier.TheVariants as ctorspecifier
 use Rattle.sol_tree.specs.declared.file.Constructor.{Constructor}
 use Rattle.sol_tree.specs.declared.file.Modifier.{Modifier}
 use Rattle.sol_tree.specs.declared.file.EventParam.{EventParam}
@@ -39,30 +39,30 @@ param_height p = type_height p.ty
 abbrev pub event_param_height : EventParam → ℕ
 event_param_height p = type_height p.ty
 
-abbrev pub fun_mark_height : FunMark → ℕ
-fun_mark_height (funmark.Public at) = 0
-fun_mark_height (funmark.External at) = 0
-fun_mark_height (funmark.Internal at) = 0
-fun_mark_height (funmark.Private at) = 0
-fun_mark_height (funmark.View at) = 0
-fun_mark_height (funmark.Pure at) = 0
-fun_mark_height (funmark.Virtual at) = 0
-fun_mark_height (funmark.Override at mark) = 0
-fun_mark_height (funmark.Base at base) = base_height base
+abbrev pub fun_specifier_height : FunSpecifier → ℕ
+fun_specifier_height (funspecifier.Public at) = 0
+fun_specifier_height (funspecifier.External at) = 0
+fun_specifier_height (funspecifier.Internal at) = 0
+fun_specifier_height (funspecifier.Private at) = 0
+fun_specifier_height (funspecifier.View at) = 0
+fun_specifier_height (funspecifier.Pure at) = 0
+fun_specifier_height (funspecifier.Virtual at) = 0
+fun_specifier_height (funspecifier.Override at mark) = 0
+fun_specifier_height (funspecifier.Base at base) = base_height base
 
-abbrev pub constructor_mark_height : ConstructorMark → ℕ
-constructor_mark_height (ctormark.Public at) = 0
-constructor_mark_height (ctormark.Internal at) = 0
-constructor_mark_height (ctormark.Base at base) = base_height base
+abbrev pub constructor_specifier_height : ConstructorSpecifier → ℕ
+constructor_specifier_height (ctorspecifier.Public at) = 0
+constructor_specifier_height (ctorspecifier.Internal at) = 0
+constructor_specifier_height (ctorspecifier.Base at base) = base_height base
 
 abbrev pub var_height : Var → ℕ
 var_height v = max (type_height v.ty) (initial_height v.initial) + 1
 
 abbrev pub fun_height : Fun → ℕ
-fun_height f = max (greatest_by param_height f.params) (max (greatest_by fun_mark_height f.marks) (max (may_by param_height f.returns) (may_by block_height f.body))) + 1
+fun_height f = max (greatest_by param_height f.params) (max (greatest_by fun_specifier_height f.specifiers) (max (may_by param_height f.returns) (may_by block_height f.body))) + 1
 
 abbrev pub constructor_height : Constructor → ℕ
-constructor_height c = max (greatest_by param_height c.params) (max (greatest_by constructor_mark_height c.marks) (block_height c.body)) + 1
+constructor_height c = max (greatest_by param_height c.params) (max (greatest_by constructor_specifier_height c.specifiers) (block_height c.body)) + 1
 
 abbrev pub modifier_height : Modifier → ℕ
 modifier_height m = max (greatest_by param_height m.params) (may_by block_height m.body) + 1

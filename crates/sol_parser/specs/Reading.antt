@@ -1,7 +1,7 @@
 -- Reading members, contracts and files, as functions on lists of tokens: what stands in front, how many levels it has, and the tokens after it.
 use Rattle.std.specs.Prelude.{◌≡◌, ℕ, zero, suc, ◌+◌, max, List, [], ◌∷◌, ◌++◌, length, Bool, true, false, Option, Some, None, Result, Ok, Err, codes}
 use denote.Ref.{Bor}
-use Rattle.chc_nums.specs.declared.memory.NoMemory.{NoMemory}
+use Rattle.lists.specs.declared.memory.NoMemory.{NoMemory}
 use Rattle.sol_tree.specs.declared.token.Token.{Token}
 use Rattle.sol_tree.specs.declared.types.Identifier.{Identifier}
 use Rattle.sol_tree.specs.declared.stmt.Block.{Block}
@@ -12,18 +12,18 @@ use Rattle.sol_tree.specs.declared.file.Base.{Base}
 use Rattle.sol_tree.specs.declared.file.Member.{Member}
 use Rattle.sol_tree.specs.declared.file.Member.TheVariants as member
 use Rattle.sol_tree.specs.declared.file.Override.{Override}
-use Rattle.sol_tree.specs.declared.file.VarMark.{VarMark}
-use Rattle.sol_tree.specs.declared.file.VarMark.TheVariants as varmark
+use Rattle.sol_tree.specs.declared.file.VarSpecifier.{VarSpecifier}
+use Rattle.sol_tree.specs.declared.file.VarSpecifier.TheVariants as varspecifier
 use Rattle.sol_tree.specs.declared.file.Var.{Var}
 use Rattle.sol_tree.specs.declared.file.Param.{Param}
-use Rattle.sol_tree.specs.declared.file.FunMark.{FunMark}
-use Rattle.sol_tree.specs.declared.file.FunMark.TheVariants as funmark
+use Rattle.sol_tree.specs.declared.file.FunSpecifier.{FunSpecifier}
+use Rattle.sol_tree.specs.declared.file.FunSpecifier.TheVariants as funspecifier
 use Rattle.sol_tree.specs.declared.file.Fun.{Fun}
-use Rattle.sol_tree.specs.declared.file.ConstructorMark.{ConstructorMark}
-use Rattle.sol_tree.specs.declared.file.ConstructorMark.TheVariants as ctormark
+use Rattle.sol_tree.specs.declared.file.ConstructorSpecifier.{ConstructorSpecifier}
+use Rattle.sol_tree.specs.declared.file.ConstructorSpecifier.TheVariants as ctorspecifier
 use Rattle.sol_tree.specs.declared.file.Constructor.{Constructor}
-use Rattle.sol_tree.specs.declared.file.ModifierMark.{ModifierMark}
-use Rattle.sol_tree.specs.declared.file.ModifierMark.TheVariants as modmark
+use Rattle.sol_tree.specs.declared.file.ModifierSpecifier.{ModifierSpecifier}
+use Rattle.sol_tree.specs.declared.file.ModifierSpecifier.TheVariants as modspecifier
 use Rattle.sol_tree.specs.declared.file.Modifier.{Modifier}
 use Rattle.sol_tree.specs.declared.file.EventParam.{EventParam}
 use Rattle.sol_tree.specs.declared.file.Event.{Event}
@@ -96,42 +96,42 @@ override_at ts =
     if_value (mark_at (codes "(") us) (λ p vs. then_tree (names_at vs) (λ is h rest. Some (record { at = at; names = is }, 0, rest))) (
     Some (record { at = at; names = [] }, 0, us)))
 
-unfoldable pub var_mark_at : Measured VarMark
-var_mark_at ts =
-    if_value (word_at (codes "public") ts) (λ at us. Some (varmark.Public at, 0, us)) (
-    if_value (word_at (codes "internal") ts) (λ at us. Some (varmark.Internal at, 0, us)) (
-    if_value (word_at (codes "private") ts) (λ at us. Some (varmark.Private at, 0, us)) (
-    if_value (word_at (codes "constant") ts) (λ at us. Some (varmark.Constant at, 0, us)) (
-    if_value (word_at (codes "immutable") ts) (λ at us. Some (varmark.Immutable at, 0, us)) (
-    then_tree (override_at ts) (λ o h us. Some (varmark.Override o.at o, 0, us)))))))
+unfoldable pub var_specifier_at : Measured VarSpecifier
+var_specifier_at ts =
+    if_value (word_at (codes "public") ts) (λ at us. Some (varspecifier.Public at, 0, us)) (
+    if_value (word_at (codes "internal") ts) (λ at us. Some (varspecifier.Internal at, 0, us)) (
+    if_value (word_at (codes "private") ts) (λ at us. Some (varspecifier.Private at, 0, us)) (
+    if_value (word_at (codes "constant") ts) (λ at us. Some (varspecifier.Constant at, 0, us)) (
+    if_value (word_at (codes "immutable") ts) (λ at us. Some (varspecifier.Immutable at, 0, us)) (
+    then_tree (override_at ts) (λ o h us. Some (varspecifier.Override o.at o, 0, us)))))))
 
--- a mark of a function that is a word alone
-unfoldable pub plain_mark_at : Measured FunMark
-plain_mark_at ts =
-    if_value (word_at (codes "public") ts) (λ at us. Some (funmark.Public at, 0, us)) (
-    if_value (word_at (codes "external") ts) (λ at us. Some (funmark.External at, 0, us)) (
-    if_value (word_at (codes "internal") ts) (λ at us. Some (funmark.Internal at, 0, us)) (
-    if_value (word_at (codes "private") ts) (λ at us. Some (funmark.Private at, 0, us)) (
-    if_value (word_at (codes "view") ts) (λ at us. Some (funmark.View at, 0, us)) (
-    if_value (word_at (codes "pure") ts) (λ at us. Some (funmark.Pure at, 0, us)) (
-    then_value (word_at (codes "virtual") ts) (λ at us. Some (funmark.Virtual at, 0, us))))))))
+-- a specifier of a function that is a word alone
+unfoldable pub plain_specifier_at : Measured FunSpecifier
+plain_specifier_at ts =
+    if_value (word_at (codes "public") ts) (λ at us. Some (funspecifier.Public at, 0, us)) (
+    if_value (word_at (codes "external") ts) (λ at us. Some (funspecifier.External at, 0, us)) (
+    if_value (word_at (codes "internal") ts) (λ at us. Some (funspecifier.Internal at, 0, us)) (
+    if_value (word_at (codes "private") ts) (λ at us. Some (funspecifier.Private at, 0, us)) (
+    if_value (word_at (codes "view") ts) (λ at us. Some (funspecifier.View at, 0, us)) (
+    if_value (word_at (codes "pure") ts) (λ at us. Some (funspecifier.Pure at, 0, us)) (
+    then_value (word_at (codes "virtual") ts) (λ at us. Some (funspecifier.Virtual at, 0, us))))))))
 
-unfoldable pub fun_mark_at : ℕ → Measured FunMark
-fun_mark_at d ts =
-    or_tree (plain_mark_at ts) (
-    if_tree (override_at ts) (λ o h us. Some (funmark.Override o.at o, 0, us)) (
-    then_tree (base_at d ts) (λ b h us. Some (funmark.Base b.at b, h, us))))
+unfoldable pub fun_specifier_at : ℕ → Measured FunSpecifier
+fun_specifier_at d ts =
+    or_tree (plain_specifier_at ts) (
+    if_tree (override_at ts) (λ o h us. Some (funspecifier.Override o.at o, 0, us)) (
+    then_tree (base_at d ts) (λ b h us. Some (funspecifier.Base b.at b, h, us))))
 
-unfoldable pub constructor_mark_at : ℕ → Measured ConstructorMark
-constructor_mark_at d ts =
-    if_value (word_at (codes "public") ts) (λ at us. Some (ctormark.Public at, 0, us)) (
-    if_value (word_at (codes "internal") ts) (λ at us. Some (ctormark.Internal at, 0, us)) (
-    then_tree (base_at d ts) (λ b h us. Some (ctormark.Base b.at b, h, us))))
+unfoldable pub constructor_specifier_at : ℕ → Measured ConstructorSpecifier
+constructor_specifier_at d ts =
+    if_value (word_at (codes "public") ts) (λ at us. Some (ctorspecifier.Public at, 0, us)) (
+    if_value (word_at (codes "internal") ts) (λ at us. Some (ctorspecifier.Internal at, 0, us)) (
+    then_tree (base_at d ts) (λ b h us. Some (ctorspecifier.Base b.at b, h, us))))
 
-unfoldable pub modifier_mark_at : Measured ModifierMark
-modifier_mark_at ts =
-    if_value (word_at (codes "virtual") ts) (λ at us. Some (modmark.Virtual at, 0, us)) (
-    then_tree (override_at ts) (λ o h us. Some (modmark.Override o.at o, 0, us)))
+unfoldable pub modifier_specifier_at : Measured ModifierSpecifier
+modifier_specifier_at ts =
+    if_value (word_at (codes "virtual") ts) (λ at us. Some (modspecifier.Virtual at, 0, us)) (
+    then_tree (override_at ts) (λ o h us. Some (modspecifier.Override o.at o, 0, us)))
 
 -- `type [ID]`
 unfoldable pub param_at : ℕ → Measured Param
@@ -173,38 +173,38 @@ may_params_at d ts = if_tree (enclosed_at (param_at d) ts) (λ ps h rest. Some (
 unfoldable pub var_at : ℕ → Measured Var
 var_at d ts =
     then_tree (type_at d ts) (λ t h t1.
-    then_tree (many_at var_mark_at t1) (λ ms k t2.
+    then_tree (many_at var_specifier_at t1) (λ ms k t2.
     then_value (name_at t2) (λ i t3.
     then_tree (may_initial_at d t3) (λ e n t4.
     then_value (mark_at (codes ";") t4) (λ p rest.
-    Some (record { at = type_place_of t; ty = t; marks = ms; name = i; initial = e }, max h n + 1, rest))))))
+    Some (record { at = type_place_of t; ty = t; specifiers = ms; name = i; initial = e }, max h n + 1, rest))))))
 
 unfoldable pub fun_at : ℕ → Measured Fun
 fun_at d ts =
     then_value (word_at (codes "function") ts) (λ at t1.
     then_value (name_at t1) (λ i t2.
     then_tree (enclosed_at (param_at d) t2) (λ ps h t3.
-    then_tree (many_at (fun_mark_at d) t3) (λ ms k t4.
+    then_tree (many_at (fun_specifier_at d) t3) (λ ms k t4.
     then_tree (may_returns_at d t4) (λ r m t5.
     then_tree (body_at d t5) (λ b n rest.
-    Some (record { at = at; name = i; params = ps; marks = ms; returns = r; body = b }, max h (max k (max m n)) + 1, rest)))))))
+    Some (record { at = at; name = i; params = ps; specifiers = ms; returns = r; body = b }, max h (max k (max m n)) + 1, rest)))))))
 
 unfoldable pub constructor_at : ℕ → Measured Constructor
 constructor_at d ts =
     then_value (word_at (codes "constructor") ts) (λ at t1.
     then_tree (enclosed_at (param_at d) t1) (λ ps h t2.
-    then_tree (many_at (constructor_mark_at d) t2) (λ ms k t3.
+    then_tree (many_at (constructor_specifier_at d) t2) (λ ms k t3.
     then_tree (block_at d t3) (λ b n rest.
-    Some (record { at = at; params = ps; marks = ms; body = b }, max h (max k n) + 1, rest)))))
+    Some (record { at = at; params = ps; specifiers = ms; body = b }, max h (max k n) + 1, rest)))))
 
 unfoldable pub modifier_at : ℕ → Measured Modifier
 modifier_at d ts =
     then_value (word_at (codes "modifier") ts) (λ at t1.
     then_value (name_at t1) (λ i t2.
     then_tree (may_params_at d t2) (λ ps h t3.
-    then_tree (many_at modifier_mark_at t3) (λ ms k t4.
+    then_tree (many_at modifier_specifier_at t3) (λ ms k t4.
     then_tree (body_at d t4) (λ b n rest.
-    Some (record { at = at; name = i; params = ps; marks = ms; body = b }, max h n + 1, rest))))))
+    Some (record { at = at; name = i; params = ps; specifiers = ms; body = b }, max h n + 1, rest))))))
 
 unfoldable pub event_at : ℕ → Measured Event
 event_at d ts =

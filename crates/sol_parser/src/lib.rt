@@ -3,12 +3,10 @@
 #![tactic(auto)]
 
 mod lists;
-mod marks;
 mod members;
 mod parser;
 mod parts;
-#[cfg(test)]
-mod tests;
+mod specifiers;
 mod units;
 
 pub use parser::{one_tree, parse};

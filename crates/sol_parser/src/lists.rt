@@ -5,7 +5,7 @@ ghost use Rattle.sol_parse_expr.specs.Reading.{Gives, GivesOne, Measured, Within
 ghost use Rattle.sol_parser.specs.Reading.{enclosed_at, many_at, may_separated_at, next_at, repeated_at, separated_at};
 
 use chc_nums::{List, NoMemory};
-use sol_parse_expr::{Reach, mark_at};
+use sol_parse_expr::{Furthest, mark_at};
 use sol_tree::Token;
 
 /// What stands in a list.
@@ -17,7 +17,7 @@ pub trait Element: Drop {
     ghost reader: { Measured Self };
 
     fn read<'a>(
-        reach: &mut Reach,
+        furthest: &mut Furthest,
         tokens: &'a [Token],
     ) -> Result<Option<(Self, u32, &'a [Token])>, NoMemory>
         ensures read { Gives result (reader tokens.now) }
@@ -27,17 +27,17 @@ pub trait Element: Drop {
 /// `{x}`
 #[tactic(auto, using(crate::proofs::Turns::turns), unfolding(crate::specs::Reading::many_at))]
 pub fn many_at<'a, T: Element>(
-    reach: &mut Reach,
+    furthest: &mut Furthest,
     tokens: &'a [Token],
 ) -> Result<(List<T>, u32, &'a [Token]), NoMemory>
     ensures read { GivesOne result (many_at T.reader tokens.now) }
     ensures within { WithinOne T.most result }
 {
-    let mut so_far = List::new(reach.alloc);
+    let mut so_far = List::new(furthest.alloc);
     let mut height = 0;
     let mut rest = tokens;
     for _turn in 0..tokens.len() {
-        let Some((element, element_height, after)) = T::read(reach, rest)? else {
+        let Some((element, element_height, after)) = T::read(furthest, rest)? else {
             return Ok((so_far, height, rest));
         };
         so_far.push(element)?;
@@ -50,22 +50,22 @@ pub fn many_at<'a, T: Element>(
 // `, x`
 #[tactic(auto, unfolding(crate::specs::Reading::next_at))]
 fn next_at<'a, T: Element>(
-    reach: &mut Reach,
+    furthest: &mut Furthest,
     tokens: &'a [Token],
 ) -> Result<Option<(T, u32, &'a [Token])>, NoMemory>
     ensures read { Gives result (next_at T.reader tokens.now) }
     ensures within { Within T.most result }
 {
-    let Some((_, rest)) = mark_at(reach, b",", tokens) else {
+    let Some((_, rest)) = mark_at(furthest, b",", tokens) else {
         return Ok(None);
     };
-    T::read(reach, rest)
+    T::read(furthest, rest)
 }
 
 // What follows the first of a list with commas.
 #[tactic(auto, using(crate::proofs::Turns::turns))]
 fn more_at<'a, T: Element>(
-    reach: &mut Reach,
+    furthest: &mut Furthest,
     first: List<T>,
     first_height: u32,
     tokens: &'a [Token],
@@ -78,7 +78,7 @@ fn more_at<'a, T: Element>(
     let mut height = first_height;
     let mut rest = tokens;
     for _turn in 0..tokens.len() {
-        let Some((element, element_height, after)) = next_at::<T>(reach, rest)? else {
+        let Some((element, element_height, after)) = next_at::<T>(furthest, rest)? else {
             return Ok((so_far, height, rest));
         };
         so_far.push(element)?;
@@ -91,49 +91,49 @@ fn more_at<'a, T: Element>(
 /// `x {, x}`
 #[tactic(auto, unfolding(crate::specs::Reading::separated_at))]
 pub fn separated_at<'a, T: Element>(
-    reach: &mut Reach,
+    furthest: &mut Furthest,
     tokens: &'a [Token],
 ) -> Result<Option<(List<T>, u32, &'a [Token])>, NoMemory>
     ensures read { Gives result (separated_at T.reader tokens.now) }
     ensures within { Within T.most result }
 {
-    let Some((first, height, rest)) = T::read(reach, tokens)? else {
+    let Some((first, height, rest)) = T::read(furthest, tokens)? else {
         return Ok(None);
     };
-    let mut elements = List::new(reach.alloc);
+    let mut elements = List::new(furthest.alloc);
     elements.push(first)?;
-    Ok(Some(more_at(reach, elements, height, rest)?))
+    Ok(Some(more_at(furthest, elements, height, rest)?))
 }
 
 /// `[x {, x}]`
 #[tactic(auto, unfolding(crate::specs::Reading::may_separated_at))]
 pub fn may_separated_at<'a, T: Element>(
-    reach: &mut Reach,
+    furthest: &mut Furthest,
     tokens: &'a [Token],
 ) -> Result<(List<T>, u32, &'a [Token]), NoMemory>
     ensures read { GivesOne result (may_separated_at T.reader tokens.now) }
     ensures within { WithinOne T.most result }
 {
-    match separated_at(reach, tokens)? {
+    match separated_at(furthest, tokens)? {
         Some(found) => Ok(found),
-        None => Ok((List::new(reach.alloc), 0, tokens)),
+        None => Ok((List::new(furthest.alloc), 0, tokens)),
     }
 }
 
 /// `( [x {, x}] )`
 #[tactic(auto, unfolding(crate::specs::Reading::enclosed_at))]
 pub fn enclosed_at<'a, T: Element>(
-    reach: &mut Reach,
+    furthest: &mut Furthest,
     tokens: &'a [Token],
 ) -> Result<Option<(List<T>, u32, &'a [Token])>, NoMemory>
     ensures read { Gives result (enclosed_at T.reader tokens.now) }
     ensures within { Within T.most result }
 {
-    let Some((_, rest)) = mark_at(reach, b"(", tokens) else {
+    let Some((_, rest)) = mark_at(furthest, b"(", tokens) else {
         return Ok(None);
     };
-    let (elements, height, rest) = may_separated_at(reach, rest)?;
-    let Some((_, rest)) = mark_at(reach, b")", rest) else {
+    let (elements, height, rest) = may_separated_at(furthest, rest)?;
+    let Some((_, rest)) = mark_at(furthest, b")", rest) else {
         return Ok(None);
     };
     Ok(Some((elements, height, rest)))

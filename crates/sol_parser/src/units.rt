@@ -8,7 +8,7 @@ ghost use Rattle.sol_parser.specs.Reading.{GivesFile, abstract_at, contract_at, 
 use crate::lists::{Element, many_at, separated_at};
 use crate::members::{error_at, event_at};
 use chc_nums::{List, NoMemory};
-use sol_parse_expr::{Reach, mark_at, name_at, word_at};
+use sol_parse_expr::{Furthest, mark_at, name_at, word_at};
 use sol_tree::{Base, File, Identifier, Member, Token, Unit};
 
 /// What follows the word `contract` or `interface`.
@@ -22,38 +22,38 @@ pub struct Outline {
 // `[is base {, base}]`
 #[tactic(auto, unfolding(crate::specs::Reading::may_bases_at))]
 fn may_bases_at<'a>(
-    reach: &mut Reach,
+    furthest: &mut Furthest,
     tokens: &'a [Token],
 ) -> Result<Option<(List<Base>, u32, &'a [Token])>, NoMemory>
     ensures read { Gives result (may_bases_at 128 tokens.now) }
     ensures within { Within 128 result }
 {
-    match word_at(reach, b"is", tokens) {
-        Some((_, rest)) => separated_at(reach, rest),
-        None => Ok(Some((List::new(reach.alloc), 0, tokens))),
+    match word_at(furthest, b"is", tokens) {
+        Some((_, rest)) => separated_at(furthest, rest),
+        None => Ok(Some((List::new(furthest.alloc), 0, tokens))),
     }
 }
 
 // `ID [bases] { {member} }`
 #[tactic(auto, unfolding(crate::specs::Reading::outline_at))]
 fn outline_at<'a>(
-    reach: &mut Reach,
+    furthest: &mut Furthest,
     tokens: &'a [Token],
 ) -> Result<Option<(Outline, u32, &'a [Token])>, NoMemory>
     ensures read { Gives result (outline_at 127 tokens.now) }
     ensures within { Within 128 result }
 {
-    let Some((name, rest)) = name_at(reach, tokens)? else {
+    let Some((name, rest)) = name_at(furthest, tokens)? else {
         return Ok(None);
     };
-    let Some((bases, bases_height, rest)) = may_bases_at(reach, rest)? else {
+    let Some((bases, bases_height, rest)) = may_bases_at(furthest, rest)? else {
         return Ok(None);
     };
-    let Some((_, rest)) = mark_at(reach, b"{", rest) else {
+    let Some((_, rest)) = mark_at(furthest, b"{", rest) else {
         return Ok(None);
     };
-    let (members, members_height, rest) = many_at(reach, rest)?;
-    let Some((_, rest)) = mark_at(reach, b"}", rest) else {
+    let (members, members_height, rest) = many_at(furthest, rest)?;
+    let Some((_, rest)) = mark_at(furthest, b"}", rest) else {
         return Ok(None);
     };
     let outline = Outline {
@@ -67,16 +67,16 @@ fn outline_at<'a>(
 // `contract ID [bases] { {member} }`
 #[tactic(auto, unfolding(crate::specs::Reading::contract_at))]
 fn contract_at<'a>(
-    reach: &mut Reach,
+    furthest: &mut Furthest,
     tokens: &'a [Token],
 ) -> Result<Option<(Unit, u32, &'a [Token])>, NoMemory>
     ensures read { Gives result (contract_at 127 tokens.now) }
     ensures within { Within 128 result }
 {
-    let Some((at, rest)) = word_at(reach, b"contract", tokens) else {
+    let Some((at, rest)) = word_at(furthest, b"contract", tokens) else {
         return Ok(None);
     };
-    let Some((outline, height, rest)) = outline_at(reach, rest)? else {
+    let Some((outline, height, rest)) = outline_at(furthest, rest)? else {
         return Ok(None);
     };
     let unit = Unit::Contract {
@@ -92,19 +92,19 @@ fn contract_at<'a>(
 // `abstract contract ID [bases] { {member} }`
 #[tactic(auto, unfolding(crate::specs::Reading::abstract_at))]
 fn abstract_at<'a>(
-    reach: &mut Reach,
+    furthest: &mut Furthest,
     tokens: &'a [Token],
 ) -> Result<Option<(Unit, u32, &'a [Token])>, NoMemory>
     ensures read { Gives result (abstract_at 127 tokens.now) }
     ensures within { Within 128 result }
 {
-    let Some((at, rest)) = word_at(reach, b"abstract", tokens) else {
+    let Some((at, rest)) = word_at(furthest, b"abstract", tokens) else {
         return Ok(None);
     };
-    let Some((_, rest)) = word_at(reach, b"contract", rest) else {
+    let Some((_, rest)) = word_at(furthest, b"contract", rest) else {
         return Ok(None);
     };
-    let Some((outline, height, rest)) = outline_at(reach, rest)? else {
+    let Some((outline, height, rest)) = outline_at(furthest, rest)? else {
         return Ok(None);
     };
     let unit = Unit::Contract {
@@ -120,16 +120,16 @@ fn abstract_at<'a>(
 // `interface ID [bases] { {member} }`
 #[tactic(auto, unfolding(crate::specs::Reading::interface_at))]
 fn interface_at<'a>(
-    reach: &mut Reach,
+    furthest: &mut Furthest,
     tokens: &'a [Token],
 ) -> Result<Option<(Unit, u32, &'a [Token])>, NoMemory>
     ensures read { Gives result (interface_at 127 tokens.now) }
     ensures within { Within 128 result }
 {
-    let Some((at, rest)) = word_at(reach, b"interface", tokens) else {
+    let Some((at, rest)) = word_at(furthest, b"interface", tokens) else {
         return Ok(None);
     };
-    let Some((outline, height, rest)) = outline_at(reach, rest)? else {
+    let Some((outline, height, rest)) = outline_at(furthest, rest)? else {
         return Ok(None);
     };
     let unit = Unit::Interface {
@@ -150,19 +150,19 @@ impl Element for Unit {
 
     #[tactic(auto, unfolding(crate::specs::Reading::unit_at))]
     fn read<'a>(
-        reach: &mut Reach,
+        furthest: &mut Furthest,
         tokens: &'a [Token],
     ) -> Result<Option<(Unit, u32, &'a [Token])>, NoMemory> {
-        if let Some(found) = contract_at(reach, tokens)? {
+        if let Some(found) = contract_at(furthest, tokens)? {
             return Ok(Some(found));
         }
-        if let Some(found) = abstract_at(reach, tokens)? {
+        if let Some(found) = abstract_at(furthest, tokens)? {
             return Ok(Some(found));
         }
-        if let Some(found) = interface_at(reach, tokens)? {
+        if let Some(found) = interface_at(furthest, tokens)? {
             return Ok(Some(found));
         }
-        if let Some((event, height, rest)) = event_at(reach, tokens)? {
+        if let Some((event, height, rest)) = event_at(furthest, tokens)? {
             return Ok(Some((
                 Unit::Event {
                     at: event.at,
@@ -172,7 +172,7 @@ impl Element for Unit {
                 rest,
             )));
         }
-        match error_at(reach, tokens)? {
+        match error_at(furthest, tokens)? {
             None => Ok(None),
             Some((error, height, rest)) => {
                 Ok(Some((
@@ -199,10 +199,10 @@ fn first_at(tokens: &[Token]) -> u32
 
 /// The file that all tokens spell.
 #[tactic(auto, unfolding(crate::specs::Reading::file_at))]
-pub fn file_at(reach: &mut Reach, tokens: &[Token]) -> Result<Option<File>, NoMemory>
+pub fn file_at(furthest: &mut Furthest, tokens: &[Token]) -> Result<Option<File>, NoMemory>
     ensures { GivesFile result (file_at 127 tokens.now) }
 {
-    let (units, _, rest) = many_at(reach, tokens)?;
+    let (units, _, rest) = many_at(furthest, tokens)?;
     match rest {
         [] => Ok(Some(File {
             at: first_at(tokens),

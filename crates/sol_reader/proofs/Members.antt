@@ -12,10 +12,9 @@ use Rattle.sol_tree.specs.declared.types.Type.TheOpen.{Type-F}
 use Rattle.sol_tree.specs.declared.types.Type.TheVariants as type_tree
 use Rattle.sol_tree.specs.declared.stmt.Block.{Block}
 use Rattle.sol_tree.specs.declared.file.Base.{Base}
-use Rattle.sol_tree.specs.declared.file.Var.{Var}
-use Rattle.sol_tree.specs.declared.file.VarMark.{VarMark}
-use Rattle.sol_tree.specs.declared.file.FunMark.{FunMark}
-use Rattle.sol_tree.specs.declared.file.FunMark.TheVariants as mark
+use Rattle.sol_tree.specs.declared.file.VarSpecifier.{VarSpecifier}
+use Rattle.sol_tree.specs.declared.file.FunSpecifier.{FunSpecifier}
+use Rattle.sol_tree.specs.declared.file.FunSpecifier.TheVariants as specifier
 use Rattle.sol_tree.specs.declared.file.Fun.{Fun}
 use Rattle.sol_tree.specs.declared.file.Member.{Member}
 use Rattle.sol_tree.specs.declared.file.Member.TheVariants as member
@@ -28,7 +27,8 @@ use Rattle.sol_first.specs.declared.contract.Contract.{Contract}
 use Rattle.sol_first.specs.declared.contract.Step.{Step}
 use Rattle.sol_reader.specs.Language.{IsStep, Pairs, none, more, IsVariable, declared, IsFunction, defined, IsFileOf, contract, Differ, variable_names}
 use Rattle.sol_reader.specs.Reading.{all_onto, size_in, size_of, is_bare, var_of, variable_in, is_public, is_open, body_in, fun_of, function_in, leading, members_of, unit_of, units_of, step_of}
-use Rattle.sol_reader.proofs.Steps.{some-is, bind, step-sound, step-complete}
+use Rattle.sol_reader.proofs.Names.{some-is}
+use Rattle.sol_reader.proofs.Steps.{bind, step-sound, step-complete}
 
 if-some : {A : Type 0} (P : Type 0) (t : Bool) (o : Option A) (z : A) → cond t o None ≡ Some z → (t ≡ true → o ≡ Some z → P) → P
 if-some P true o z h f = f refl h
@@ -72,18 +72,18 @@ size-sound : (t : types.Type) (n : ℕ) → size_of t ≡ Some n → (at : ℕ) 
 unfolding size_of
 size-sound t n h = let r = size-sound-at (types.out-Type t) n h in (r.0, sym (types.roll-out-Type t) ∙ r.1)
 
-var-sound : (at first : ℕ) (t : types.Type) (marks : List VarMark) (name : Identifier) (initial : Option Initial) (v : Variable) → var_of (record { at = first; ty = t; marks = marks; name = name; initial = initial }) ≡ Some v → IsVariable (member.Var at (record { at = first; ty = t; marks = marks; name = name; initial = initial })) v
+var-sound : (at first : ℕ) (t : types.Type) (specifiers : List VarSpecifier) (name : Identifier) (initial : Option Initial) (v : Variable) → var_of (record { at = first; ty = t; specifiers = specifiers; name = name; initial = initial }) ≡ Some v → IsVariable (member.Var at (record { at = first; ty = t; specifiers = specifiers; name = name; initial = initial })) v
 var-sound at first t [] name None v h =
-    bind (IsVariable (member.Var at (record { at = first; ty = t; marks = []; name = name; initial = None })) v) (size_of t) _ v h (λ n h1 g1.
+    bind (IsVariable (member.Var at (record { at = first; ty = t; specifiers = []; name = name; initial = None })) v) (size_of t) _ v h (λ n h1 g1.
     let s = size-sound t n h1 in
-    subst (λ (w : Variable). IsVariable (member.Var at (record { at = first; ty = t; marks = []; name = name; initial = None })) w) (some-is (record { size = n; name = name.name }) v g1)
-    (subst (λ (u : types.Type). IsVariable (member.Var at (record { at = first; ty = u; marks = []; name = name; initial = None })) (record { size = n; name = name.name })) (sym s.1) declared))
+    subst (λ (w : Variable). IsVariable (member.Var at (record { at = first; ty = t; specifiers = []; name = name; initial = None })) w) (some-is (record { size = n; name = name.name }) v g1)
+    (subst (λ (u : types.Type). IsVariable (member.Var at (record { at = first; ty = u; specifiers = []; name = name; initial = None })) (record { size = n; name = name.name })) (sym s.1) declared))
 var-sound at first t [] name (Some i) v h = absurd (cc)
 var-sound at first t (m ∷ ms) name initial v h =
-    absurd (if-some ⊥ (is_bare (record { at = first; ty = t; marks = m ∷ ms; name = name; initial = initial })) _ v h (λ b g. and-parts ⊥ (length (m ∷ ms) == 0) _ b (λ e f. grind (arith, nat_tests))))
+    absurd (if-some ⊥ (is_bare (record { at = first; ty = t; specifiers = m ∷ ms; name = name; initial = initial })) _ v h (λ b g. and-parts ⊥ (length (m ∷ ms) == 0) _ b (λ e f. grind (arith, nat_tests))))
 
 variable-sound : (m : Member) (v : Variable) → variable_in m ≡ Some v → IsVariable m v
-variable-sound (member.Var at w) v h = var-sound at w.at w.ty w.marks w.name w.initial v h
+variable-sound (member.Var at w) v h = var-sound at w.at w.ty w.specifiers w.name w.initial v h
 variable-sound m v h = absurd (cc)
 
 variable-complete : (m : Member) (v : Variable) → IsVariable m v → variable_in m ≡ Some v
@@ -96,8 +96,8 @@ none-is : {A : Type 0} (o : Option A) → is_none o ≡ true → o ≡ None
 none-is None h = refl
 none-is (Some x) h = absurd (cc)
 
-public-is : (ms : List FunMark) → is_public ms ≡ true → (at : ℕ) × (ms ≡ mark.Public at ∷ [])
-public-is (mark.Public at ∷ []) h = (at, refl)
+public-is : (ms : List FunSpecifier) → is_public ms ≡ true → (at : ℕ) × (ms ≡ specifier.Public at ∷ [])
+public-is (specifier.Public at ∷ []) h = (at, refl)
 public-is ms h = absurd (cc)
 
 body-sound : (text : List ℕ) (vs : List Variable) (name : List ℕ) (b : Option Block) (f : Function) → body_in text vs name b ≡ Some f → (block : Block) × (b ≡ Some block) × (name ≡ f.name) × Pairs (IsStep text vs) block.statements f.steps
@@ -108,11 +108,11 @@ body-sound text vs name (Some block) f h =
     let p : Pairs (IsStep text vs) block.statements ss = pairs-of (IsStep text vs) (step_of text vs) (step-sound text vs) block.statements ss h1 in
     (block, refl, ap (λ (g : Function). g.name) e, subst (λ (rs : List Step). Pairs (IsStep text vs) block.statements rs) (ap (λ (g : Function). g.steps) e) p))
 
-made-function : (text : List ℕ) (vs : List Variable) (at : ℕ) (w : Fun) (f : Function) (mark_at : ℕ) (block : Block) → w.params ≡ [] → w.marks ≡ mark.Public mark_at ∷ [] → w.returns ≡ None → w.body ≡ Some block → w.name.name ≡ f.name → Pairs (IsStep text vs) block.statements f.steps → IsFunction text vs (member.Fun at w) f
-made-function text vs at w f mark_at block p m r b n s =
+made-function : (text : List ℕ) (vs : List Variable) (at : ℕ) (w : Fun) (f : Function) (specifier_at : ℕ) (block : Block) → w.params ≡ [] → w.specifiers ≡ specifier.Public specifier_at ∷ [] → w.returns ≡ None → w.body ≡ Some block → w.name.name ≡ f.name → Pairs (IsStep text vs) block.statements f.steps → IsFunction text vs (member.Fun at w) f
+made-function text vs at w f specifier_at block p m r b n s =
     let name : Identifier = w.name in
-    let g : Fun = record { at = w.at; name = name; params = []; marks = mark.Public mark_at ∷ []; returns = None; body = Some block } in
-    let e : ◌≡◌ {A = Fun} g w = λ i. record { at = w.at; name = name; params = sym p i; marks = sym m i; returns = sym r i; body = sym b i } in
+    let g : Fun = record { at = w.at; name = name; params = []; specifiers = specifier.Public specifier_at ∷ []; returns = None; body = Some block } in
+    let e : ◌≡◌ {A = Fun} g w = λ i. record { at = w.at; name = name; params = sym p i; specifiers = sym m i; returns = sym r i; body = sym b i } in
     let h : ◌≡◌ {A = Function} (record { name = w.name.name; steps = f.steps }) f = λ i. record { name = n i; steps = f.steps } in
     subst (λ (v : Fun). IsFunction text vs (member.Fun at v) f) e (subst (λ (k : Function). IsFunction text vs (member.Fun at g) k) h (defined s))
 
@@ -120,9 +120,9 @@ fun-sound : (text : List ℕ) (vs : List Variable) (at : ℕ) (w : Fun) (f : Fun
 fun-sound text vs at w f h =
     let P : Type 0 = IsFunction text vs (member.Fun at w) f in
     if-some P (is_open w) (body_in text vs w.name.name w.body) f h (λ o g.
-    and-parts P (length w.params == 0) (is_public w.marks && is_none w.returns) o (λ p q.
-    and-parts P (is_public w.marks) (is_none w.returns) q (λ m r.
-    let a = public-is w.marks m in
+    and-parts P (length w.params == 0) (is_public w.specifiers && is_none w.returns) o (λ p q.
+    and-parts P (is_public w.specifiers) (is_none w.returns) q (λ m r.
+    let a = public-is w.specifiers m in
     let b = body-sound text vs w.name.name w.body f g in
     made-function text vs at w f a.0 b.0 (nothing-in w.params p) a.1 (none-is w.returns r) b.1 b.2 b.3)))
 
@@ -133,7 +133,7 @@ function-sound text vs m f h = absurd (cc)
 
 function-complete : (text : List ℕ) (vs : List Variable) → Differ (variable_names vs) → (m : Member) (f : Function) → IsFunction text vs m f → function_in text vs m ≡ Some f
 unfolding function_in
-function-complete text vs d _ _ (defined {at} {first} {name_at} {mark_at} {block_at} {name} {body} {steps} s) =
+function-complete text vs d _ _ (defined {at} {first} {name_at} {specifier_at} {block_at} {name} {body} {steps} s) =
     let e : all_onto (step_of text vs) [] body ≡ Some steps = all-complete (IsStep text vs) (step_of text vs) (step-complete vs d text) [] s in
     rw e refl
 

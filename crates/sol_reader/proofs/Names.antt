@@ -1,5 +1,5 @@
 -- Names that differ, and variables by their names.
-use Rattle.std.proofs.Common.{◌≡◌, ◌≢◌, ◌∙◌, sym, ap, subst, refl, ℕ, zero, suc, ◌+◌, List, [], ◌∷◌, ◌++◌, Bool, true, false, cond, Option, Some, None, arith, slice_get}
+use Rattle.std.proofs.Common.{◌≡◌, ◌≢◌, ◌∙◌, sym, ap, subst, refl, ℕ, zero, suc, ◌+◌, List, [], ◌∷◌, ◌++◌, Bool, true, false, cond, Some, arith, slice_get}
 use Rattle.std.specs.Str.{bytes_eq}
 use Rattle.std.proofs.lemmas.Slice.Eq.{bytes_eq-Decides}
 use Rattle.sol_first.specs.declared.contract.Variable.{Variable}
@@ -40,7 +40,7 @@ pub record IsPlaced (vs : List Variable) (w : List ℕ) (place : ℕ) : Type 0 w
   pub there : slice_get vs place ≡ Some variable
   pub name : variable.name ≡ w
 
-some-is : {A : Type 0} (x y : A) → Some x ≡ Some y → x ≡ y
+pub some-is : {A : Type 0} (x y : A) → Some x ≡ Some y → x ≡ y
 some-is x y h = cc
 
 placed-later : (v : Variable) (vs : List Variable) (w : List ℕ) (p q n : ℕ) → (j : ℕ) × (p ≡ (n + 1) + j) × IsPlaced vs w j → (j : ℕ) × (p ≡ n + j) × IsPlaced (v ∷ vs) w j

@@ -1,7 +1,7 @@
 -- The places where lines begin tell the line and the column of each place.
-use Rattle.std.proofs.Common.{◌≡◌, ◌∙◌, sym, ap, refl, ℕ, zero, suc, ◌+◌, ◌-◌, min, ◌<◌, ◌≤◌, ◌==◌, Bool, true, false, leb, List, [], ◌∷◌, length, take, get_or, arith, if◌then◌else◌}
+use Rattle.std.proofs.Common.{◌≡◌, ap, refl, ℕ, zero, suc, ◌+◌, ◌-◌, min, ◌<◌, ◌≤◌, ◌==◌, Bool, true, false, leb, List, [], ◌∷◌, length, take, get_or, arith, if◌then◌else◌}
 use Rattle.std.specs.List.Sorted.{IsNonDecreasingBy, IsPartitionPoint}
-use Rattle.std.proofs.lemmas.Bool.Decides.{nat_tests}
+use Rattle.std.proofs.lemmas.Bool.{le-leb, lt-leb, leb-true}
 use Rattle.std.proofs.lemmas.List.{take_min}
 use Rattle.sol_reader.specs.Places.{line_after, column_after, line_of, column_of}
 use Rattle.sol_reader.specs.Starts.{AreStarts, with_start, starts_from, begun, last_of}
@@ -34,15 +34,6 @@ are-rising starts text a = rw a.places (starts-rise 0 text)
 
 -- ---- how many are not after a place
 
-test-true : (a b : ℕ) → a ≤ b → leb a b ≡ true
-test-true a b h = grind (arith, nat_tests)
-
-test-false : (a b : ℕ) → b < a → leb a b ≡ false
-test-false a b h = grind (arith, nat_tests)
-
-test-le : (a b : ℕ) → leb a b ≡ true → a ≤ b
-test-le a b h = grind (arith, nat_tests)
-
 pub begun-point : (ss : List ℕ) (at p : ℕ) → p ≤ length ss → ((k : ℕ) → k < p → leb (get_or ss k 0) at ≡ true) → ((k : ℕ) → p ≤ k → k < length ss → leb (get_or ss k 0) at ≡ false) → p ≡ begun ss at
 begun-point [] at p l h g = omega arith
 begun-point (s ∷ ss) at zero l h g = let e : leb s at ≡ false = g 0 (omega arith) (omega arith) in rw e refl
@@ -57,12 +48,12 @@ begun-search ss at p l h = begun-point ss at p l (λ k m. h.0 k 0 (omega arith) 
 pub rising-splits : (ss : List ℕ) (at : ℕ) → IsNonDecreasingBy (λ s. s) ss → (i j d : ℕ) → i ≤ j → j < length ss → leb (get_or ss j d) at ≡ true → leb (get_or ss i d) at ≡ true
 rising-splits ss at r i j d l m h =
     let a : get_or ss i d ≤ get_or ss j d = r i j d l m in
-    let b : get_or ss j d ≤ at = test-le (get_or ss j d) at h in
-    test-true (get_or ss i d) at (omega arith)
+    let b : get_or ss j d ≤ at = leb-true (get_or ss j d) at h in
+    le-leb (get_or ss i d) at (omega arith)
 
 begun-none : (ss : List ℕ) (at : ℕ) → (0 < length ss → at < get_or ss 0 0) → begun ss at ≡ 0
 begun-none [] at h = refl
-begun-none (s ∷ ss) at h = let g : at < s = h (omega arith) in rw (test-false s at g) refl
+begun-none (s ∷ ss) at h = let g : at < s = h (omega arith) in rw (lt-leb s at g) refl
 
 -- ---- the last one not after a place
 
@@ -80,7 +71,7 @@ pub last-none : (first : ℕ) (ss : List ℕ) (n : ℕ) → n ≡ 0 → last_of 
 last-none first ss n h = rw h refl
 
 last-tested : (t : Bool) (first s : ℕ) (ss : List ℕ) (at : ℕ) → leb s at ≡ t → first ≤ at → (s ≤ at → last_of s ss (begun ss at) ≤ at) → last_of first (s ∷ ss) (if t then suc (begun ss at) else 0) ≤ at
-last-tested true first s ss at e h g = g (test-le s at e)
+last-tested true first s ss at e h g = g (leb-true s at e)
 last-tested false first s ss at e h g = h
 
 last-below : (first : ℕ) (ss : List ℕ) (at : ℕ) → first ≤ at → last_of first ss (begun ss at) ≤ at
@@ -97,7 +88,7 @@ pub ruleset lasts = (last-at, last-none, last-within)
 line-step : (t : Bool) (line k at : ℕ) (ss bs : List ℕ) → ((l : ℕ) → line_after l bs ≡ l + begun ss ((k + 1) + at)) → line_after (if t then line + 1 else line) bs ≡ line + begun (with_start t (k + 1) ss) (k + suc at)
 line-step true line k at ss bs h =
     let e : (k + 1) + at ≡ k + suc at = omega arith in
-    let f : leb (k + 1) (k + suc at) ≡ true = test-true (k + 1) (k + suc at) (omega arith) in
+    let f : leb (k + 1) (k + suc at) ≡ true = le-leb (k + 1) (k + suc at) (omega arith) in
     let g : line_after (line + 1) bs ≡ (line + 1) + begun ss (k + suc at) = rw e at (h (line + 1)) in
     rw f (omega (arith, g))
 line-step false line k at ss bs h =
@@ -117,7 +108,7 @@ line-from (b ∷ bs) line k (suc at) = line-step (b == 10) line k at (starts_fro
 column-step : (t : Bool) (first k at : ℕ) (ss bs : List ℕ) → first ≤ k → ((f : ℕ) → f ≤ k + 1 → column_after ((k + 1 - f) + 1) bs ≡ (((k + 1) + at) - last_of f ss (begun ss ((k + 1) + at))) + 1) → column_after (if t then 1 else ((k - first) + 1) + 1) bs ≡ ((k + suc at) - last_of first (with_start t (k + 1) ss) (begun (with_start t (k + 1) ss) (k + suc at))) + 1
 column-step true first k at ss bs l h =
     let e : (k + 1) + at ≡ k + suc at = omega arith in
-    let f : leb (k + 1) (k + suc at) ≡ true = test-true (k + 1) (k + suc at) (omega arith) in
+    let f : leb (k + 1) (k + suc at) ≡ true = le-leb (k + 1) (k + suc at) (omega arith) in
     let z : (k + 1 - (k + 1)) + 1 ≡ 1 = omega arith in
     let g = rw (e, z) at (h (k + 1) (omega arith)) in
     rw f g

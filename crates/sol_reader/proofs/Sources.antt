@@ -6,8 +6,7 @@ use Rattle.sol_reader.specs.declared.fault.ReadFault.{ReadFault}
 use Rattle.sol_reader.specs.declared.fault.ReadFault.TheVariants as fault
 use Rattle.sol_reader.specs.Language.{IsGood, IsFirst, Reads, variable_names, function_names}
 use Rattle.sol_reader.specs.Reading.{Gives, units_of}
-use Rattle.sol_reader.proofs.Names.{differ-left}
-use Rattle.sol_reader.proofs.Steps.{some-is}
+use Rattle.sol_reader.proofs.Names.{differ-left, some-is}
 use Rattle.sol_reader.proofs.Members.{units-sound, units-complete}
 
 read-of : (text : List ℕ) (f : File) (c : Contract) → IsFirst text f c → units_of text f.units ≡ Some c

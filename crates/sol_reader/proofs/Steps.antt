@@ -21,11 +21,8 @@ use Rattle.sol_reader.specs.declared.step.Test.{Test}
 use Rattle.sol_reader.specs.Places.{line_of, column_of}
 use Rattle.sol_reader.specs.Language.{IsNamed, named, IsNumber, number, operator_of, IsTest, compared, IsStep, required, asserted, put, moved, added, subtracted, Differ, variable_names}
 use Rattle.sol_reader.specs.Reading.{if_value, named_in, variable_of, number_in, number_of, order_of, test_in, test_of, changed, change_in, change_of, value_of, assignment_of, step_in, step_of}
-use Rattle.sol_reader.proofs.Names.{place-sound, place-complete}
+use Rattle.sol_reader.proofs.Names.{place-sound, place-complete, some-is}
 use Rattle.chc_nums.specs.Values.{with_value}
-
-pub some-is : {A : Type 0} (x y : A) → Some x ≡ Some y → x ≡ y
-some-is x y h = cc
 
 pub bind : {A B : Type 0} (P : Type 0) (o : Option A) (go : A → Option B) (z : B) → with_value o go ≡ Some z → ((x : A) → o ≡ Some x → go x ≡ Some z → P) → P
 bind P None go z h f = absurd (cc)

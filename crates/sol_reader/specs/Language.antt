@@ -1,6 +1,7 @@
 -- The first language: the tree of a file and its contract.
-use Rattle.std.specs.Prelude.{◌≡◌, ◌≢◌, ℕ, ◌+◌, ◌≤◌, Bool, false, List, [], ◌∷◌, ◌++◌, length, map, Option, Some, None, Result, Ok, Err, slice_get}
+use Rattle.std.specs.Prelude.{◌≡◌, ◌≢◌, ℕ, ◌+◌, ◌≤◌, Bool, false, List, [], ◌∷◌, ◌++◌, length, map, Some, None, Result, Ok, Err, slice_get}
 use lib.IntN.{ℤ}
+use Rattle.chc_nums.specs.declared.limits.TheConstants.{MAX_FUNCTIONS, MAX_STATEMENTS, MAX_VARIABLES}
 use Rattle.chc_nums.specs.declared.typed.Ty.TheVariants as ty
 use Rattle.sol_tree.specs.declared.expr.BinaryOp.{BinaryOp}
 use Rattle.sol_tree.specs.declared.expr.BinaryOp.TheVariants as operator
@@ -11,7 +12,7 @@ use Rattle.sol_tree.specs.declared.stmt.AssignOp.TheVariants as assign
 use Rattle.sol_tree.specs.declared.stmt.Simple.TheVariants as simple
 use Rattle.sol_tree.specs.declared.stmt.Stmt.{Stmt}
 use Rattle.sol_tree.specs.declared.stmt.Stmt.TheVariants as stmt
-use Rattle.sol_tree.specs.declared.file.FunMark.TheVariants as mark
+use Rattle.sol_tree.specs.declared.file.FunSpecifier.TheVariants as specifier
 use Rattle.sol_tree.specs.declared.file.Member.{Member}
 use Rattle.sol_tree.specs.declared.file.Member.TheVariants as member
 use Rattle.sol_tree.specs.declared.file.Unit.TheVariants as unit
@@ -70,11 +71,11 @@ pub data Pairs {A B : Type 0} (R : A → B → Type 0) : List A → List B → T
 
 -- `uintN ID ;`
 pub data IsVariable : Member → Variable → Type 0 where
-  declared : {at first type_at name_at size : ℕ} {name : List ℕ} → IsVariable (member.Var at (record { at = first; ty = type_tree.Elementary type_at (ty.Uint size); marks = []; name = record { at = name_at; name = name }; initial = None })) (record { size = size; name = name })
+  declared : {at first type_at name_at size : ℕ} {name : List ℕ} → IsVariable (member.Var at (record { at = first; ty = type_tree.Elementary type_at (ty.Uint size); specifiers = []; name = record { at = name_at; name = name }; initial = None })) (record { size = size; name = name })
 
 -- `function ID ( ) public { .. }`
 pub data IsFunction (text : List ℕ) (vs : List Variable) : Member → Function → Type 0 where
-  defined : {at first name_at mark_at block_at : ℕ} {name : List ℕ} {body : List Stmt} {steps : List Step} → Pairs (IsStep text vs) body steps → IsFunction text vs (member.Fun at (record { at = first; name = record { at = name_at; name = name }; params = []; marks = mark.Public mark_at ∷ []; returns = None; body = Some (record { at = block_at; statements = body }) })) (record { name = name; steps = steps })
+  defined : {at first name_at specifier_at block_at : ℕ} {name : List ℕ} {body : List Stmt} {steps : List Step} → Pairs (IsStep text vs) body steps → IsFunction text vs (member.Fun at (record { at = first; name = record { at = name_at; name = name }; params = []; specifiers = specifier.Public specifier_at ∷ []; returns = None; body = Some (record { at = block_at; statements = body }) })) (record { name = name; steps = steps })
 
 -- `contract ID { .. }`, the variables before the functions
 pub data IsFileOf (text : List ℕ) : Contract → File → Type 0 where
@@ -105,9 +106,9 @@ step_count (f ∷ fs) = length f.steps + step_count fs
 pub record IsGood (c : Contract) : Type 0 where
   pub typed : IsTyped c
   pub distinct : Differ (variable_names c.variables ++ function_names c.functions)
-  pub few_variables : length c.variables ≤ 48
-  pub few_functions : length c.functions ≤ 64
-  pub few_steps : step_count c.functions ≤ 4096
+  pub few_variables : length c.variables ≤ MAX_VARIABLES
+  pub few_functions : length c.functions ≤ MAX_FUNCTIONS
+  pub few_steps : step_count c.functions ≤ MAX_STATEMENTS
 
 -- the tree of a text is that of a contract of the language
 pub record IsFirst (text : List ℕ) (f : File) (c : Contract) : Type 0 where

@@ -3,6 +3,7 @@ use Rattle.std.specs.Prelude.{◌≡◌, ℕ, suc, ◌+◌, Bool, true, false, �
 use lib.IntN.{ℤ}
 use Rattle.std.specs.List.{All}
 use Rattle.std.specs.Str.{bytes_eq}
+use Rattle.chc_nums.specs.declared.limits.TheConstants.{MAX_VARIABLES}
 use Rattle.chc_nums.specs.declared.typed.Ty.TheVariants as ty
 use Rattle.chc_nums.specs.Values.{with_value}
 use Rattle.sol_tree.specs.declared.expr.BinaryOp.{BinaryOp}
@@ -18,8 +19,8 @@ use Rattle.sol_tree.specs.declared.stmt.Block.{Block}
 use Rattle.sol_tree.specs.declared.types.Type as types
 use Rattle.sol_tree.specs.declared.types.Type.TheOpen.{Type-F}
 use Rattle.sol_tree.specs.declared.file.Var.{Var}
-use Rattle.sol_tree.specs.declared.file.FunMark.{FunMark}
-use Rattle.sol_tree.specs.declared.file.FunMark.TheVariants as mark
+use Rattle.sol_tree.specs.declared.file.FunSpecifier.{FunSpecifier}
+use Rattle.sol_tree.specs.declared.file.FunSpecifier.TheVariants as specifier
 use Rattle.sol_tree.specs.declared.file.Fun.{Fun}
 use Rattle.sol_tree.specs.declared.file.Member.{Member}
 use Rattle.sol_tree.specs.declared.file.Member.TheVariants as member
@@ -131,7 +132,7 @@ unfoldable pub size_of : types.Type → Option ℕ
 size_of t = size_in (types.out-Type t)
 
 abbrev pub is_bare : Var → Bool
-is_bare v = (length v.marks == 0) && is_none v.initial
+is_bare v = (length v.specifiers == 0) && is_none v.initial
 
 abbrev pub var_of : Var → Option Variable
 var_of v = if is_bare v then with_value (size_of v.ty) (λ n. Some (record { size = n; name = v.name.name })) else None
@@ -141,12 +142,12 @@ abbrev pub variable_in : Member → Option Variable
 variable_in (member.Var at v) = var_of v
 variable_in m = None
 
-abbrev pub is_public : List FunMark → Bool
-is_public (mark.Public at ∷ []) = true
-is_public marks = false
+abbrev pub is_public : List FunSpecifier → Bool
+is_public (specifier.Public at ∷ []) = true
+is_public specifiers = false
 
 abbrev pub is_open : Fun → Bool
-is_open f = (length f.params == 0) && (is_public f.marks && is_none f.returns)
+is_open f = (length f.params == 0) && (is_public f.specifiers && is_none f.returns)
 
 abbrev pub body_in : List ℕ → List Variable → List ℕ → Option Block → Option Function
 body_in text vs name None = None
@@ -170,7 +171,7 @@ abbrev pub with_functions : List ℕ → List ℕ → List Variable → List Mem
 with_functions text name vs ms = with_value (all_onto (function_in text vs) [] ms) (λ fs. Some (record { name = name; variables = vs; functions = fs }))
 
 unfoldable pub members_of : List ℕ → List ℕ → List Member → Option Contract
-members_of text name ms = with_value (all_onto variable_in [] (take (leading ms) ms)) (λ vs. if leb (length vs) 48 then with_functions text name vs (drop (leading ms) ms) else None)
+members_of text name ms = with_value (all_onto variable_in [] (take (leading ms) ms)) (λ vs. if leb (length vs) MAX_VARIABLES then with_functions text name vs (drop (leading ms) ms) else None)
 
 -- `contract ID { .. }`
 abbrev pub unit_of : List ℕ → units.Unit → Option Contract

@@ -1,5 +1,6 @@
 -- The places where the lines of a text begin, but for the first line.
 use Rattle.std.specs.Prelude.{ℕ, zero, suc, ◌+◌, ◌≡◌, ◌≤◌, ◌==◌, Bool, true, false, List, [], ◌∷◌, length, leb, if◌then◌else◌}
+use Rattle.chc_nums.specs.declared.limits.TheConstants.{MAX_FILE_BYTES}
 
 abbrev pub with_start : Bool → ℕ → List ℕ → List ℕ
 with_start true at starts = at ∷ starts
@@ -24,4 +25,4 @@ last_of first (s ∷ ss) (suc n) = last_of s ss n
 -- what is known of a text and the places where its lines begin
 pub record AreStarts (starts : List ℕ) (text : List ℕ) : Type 0 where
   pub places : starts ≡ starts_from 0 text
-  pub short : length text ≤ 262144
+  pub short : length text ≤ MAX_FILE_BYTES

@@ -4,11 +4,12 @@ ghost use Rattle.std.specs.Prelude.{◌≡◌, ◌≤◌, ◌++◌, ◌↔◌, I
 ghost use Rattle.std.specs.List.{All};
 ghost use Rattle.chc_nums.specs.Types.{InRange, IsSize};
 ghost use Rattle.chc_nums.specs.declared.typed.Ty.TheVariants as ty;
+ghost use Rattle.chc_nums.specs.declared.limits.TheConstants.{MAX_STATEMENTS};
 ghost use Rattle.sol_first.specs.Typed.{IsDeclared, IsValue, StepTyped, size_at};
 ghost use Rattle.sol_reader.specs.Reading.{FunctionTyped};
 ghost use Rattle.sol_reader.specs.Language.{Absent, Differ, variable_names, function_names, step_count, IsGood};
 
-use chc_nums::{Name, Ty, range};
+use chc_nums::{MAX_FUNCTIONS, MAX_STATEMENTS, MAX_VARIABLES, Name, Ty, range};
 use sol_first::{Contract, Function, Step, Variable};
 
 // Whether a number of bytes is that of a type.
@@ -152,9 +153,9 @@ fn functions_typed(variables: &[Variable], functions: &[Function]) -> bool
 }
 
 fn are_few_steps(functions: &[Function]) -> bool
-    ensures { IsTrue result ↔ (step_count functions.now ≤ 4096) }
+    ensures { IsTrue result ↔ (step_count functions.now ≤ MAX_STATEMENTS) }
 {
-    let mut room: usize = 4096;
+    let mut room = MAX_STATEMENTS;
     let mut rest = functions;
     while let [function, more @ ..] = rest {
         if room < function.steps.len() {
@@ -239,8 +240,8 @@ pub fn is_good(contract: &Contract) -> bool
 {
     let variables = contract.variables.as_slice();
     let functions = contract.functions.as_slice();
-    variables.len() <= 48
-        && functions.len() <= 64
+    variables.len() <= MAX_VARIABLES
+        && functions.len() <= MAX_FUNCTIONS
         && are_few_steps(functions)
         && names_differ(variables, functions)
         && are_sized(variables)

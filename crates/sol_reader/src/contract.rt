@@ -1,18 +1,16 @@
 // Contracts, from the trees of files.
 
 ghost use Rattle.std.specs.Prelude.{◌≡◌, ◌≤◌, [], length};
+ghost use Rattle.chc_nums.specs.declared.limits.TheConstants.{MAX_VARIABLES};
 ghost use Rattle.sol_reader.specs.Reading.{Gives, all_onto, size_of, is_bare, var_of, variable_in, is_public, is_open, fun_of, function_in, leading, with_functions, members_of, unit_of, units_of, step_of};
 
 use crate::fault::ReadFault;
 use crate::lines::Lines;
 use crate::step::step_of;
-use chc_nums::{List, Name, Ty};
+use chc_nums::{List, MAX_VARIABLES, Name, Ty};
 use sol_first::{Contract, Function, Step, Variable};
-use sol_tree::{File, Fun, FunMark, Member, Stmt, Type, Unit, Var};
+use sol_tree::{File, Fun, FunSpecifier, Member, Stmt, Type, Unit, Var};
 use std::alloc::Global;
-
-// The most variables of a contract.
-const MOST_VARIABLES: usize = 48;
 
 // The bytes of an unsigned type.
 #[tactic(auto, unfolding(crate::specs::Reading::size_of))]
@@ -28,11 +26,11 @@ fn size_of(ty: &Type) -> Option<u8>
     }
 }
 
-// Whether a variable has no marks and no initial value.
+// Whether a variable has no specifiers and no initial value.
 fn is_bare(var: &Var) -> bool
     ensures { result ≡ is_bare var.now }
 {
-    var.marks.is_empty() && var.initial.is_none()
+    var.specifiers.is_empty() && var.initial.is_none()
 }
 
 fn var_of(alloc: Global, var: &Var) -> Result<Variable, ReadFault>
@@ -69,20 +67,20 @@ fn variables_in(alloc: Global, members: &[Member]) -> Result<List<Variable>, Rea
     Ok(variables)
 }
 
-fn is_public(marks: &[FunMark]) -> bool
-    ensures { result ≡ is_public marks.now }
+fn is_public(specifiers: &[FunSpecifier]) -> bool
+    ensures { result ≡ is_public specifiers.now }
 {
-    match marks {
-        [FunMark::Public { .. }] => true,
+    match specifiers {
+        [FunSpecifier::Public { .. }] => true,
         _ => false,
     }
 }
 
-// Whether a function is public, with no other mark, no parameters and nothing to return.
+// Whether a function is public, with no other specifier, no parameters and nothing to return.
 fn is_open(fun: &Fun) -> bool
     ensures { result ≡ is_open fun.now }
 {
-    fun.params.is_empty() && is_public(fun.marks.as_slice()) && fun.returns.is_none()
+    fun.params.is_empty() && is_public(fun.specifiers.as_slice()) && fun.returns.is_none()
 }
 
 fn steps_in(
@@ -91,7 +89,7 @@ fn steps_in(
     variables: &[Variable],
     statements: &[Stmt],
 ) -> Result<List<Step>, ReadFault>
-    requires { length variables.now ≤ 48 }
+    requires { length variables.now ≤ MAX_VARIABLES }
     ensures { Gives result (all_onto (step_of lines.now variables.now) [] statements.now) }
 {
     let mut steps = List::new(alloc);
@@ -112,7 +110,7 @@ fn fun_of(
     variables: &[Variable],
     fun: &Fun,
 ) -> Result<Function, ReadFault>
-    requires { length variables.now ≤ 48 }
+    requires { length variables.now ≤ MAX_VARIABLES }
     ensures { Gives result (fun_of lines.now variables.now fun.now) }
 {
     if !is_open(fun) {
@@ -133,7 +131,7 @@ fn function_in(
     variables: &[Variable],
     member: &Member,
 ) -> Result<Function, ReadFault>
-    requires { length variables.now ≤ 48 }
+    requires { length variables.now ≤ MAX_VARIABLES }
     ensures { Gives result (function_in lines.now variables.now member.now) }
 {
     match member {
@@ -148,7 +146,7 @@ fn functions_in(
     variables: &[Variable],
     members: &[Member],
 ) -> Result<List<Function>, ReadFault>
-    requires { length variables.now ≤ 48 }
+    requires { length variables.now ≤ MAX_VARIABLES }
     ensures { Gives result (all_onto (function_in lines.now variables.now) [] members.now) }
 {
     let mut functions = List::new(alloc);
@@ -181,7 +179,7 @@ fn with_functions(
     variables: List<Variable>,
     members: &[Member],
 ) -> Result<Contract, ReadFault>
-    requires { length variables ≤ 48 }
+    requires { length variables ≤ MAX_VARIABLES }
     ensures { Gives result (with_functions lines.now name.now variables members.now) }
 {
     let functions = functions_in(alloc, lines, variables.as_slice(), members)?;
@@ -204,7 +202,7 @@ fn members_of(
 {
     let count = leading(members);
     let variables = variables_in(alloc, &members[..count])?;
-    if variables.len() <= MOST_VARIABLES {
+    if variables.len() <= MAX_VARIABLES {
         with_functions(alloc, lines, name, variables, &members[count..])
     } else {
         Err(ReadFault::NotBuilt)

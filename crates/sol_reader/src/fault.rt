@@ -1,13 +1,16 @@
 // Why nothing was read.
 
 use chc_nums::NoMemory;
+use thiserror::Error;
 
 /// Why no contract was read.
-#[derive(Clone, Copy, Debug, PartialEq, Eq)]
+#[derive(Clone, Copy, Debug, PartialEq, Eq, Error)]
 pub enum ReadFault {
     /// The tree is that of no contract of the language.
+    #[error("the file holds what is not read yet")]
     NotBuilt,
     /// Memory was wanted and not given.
+    #[error("out of memory")]
     NoMemory,
 }
 

@@ -13,6 +13,3 @@ mod step;
 pub use fault::ReadFault;
 pub use lines::Lines;
 pub use reader::{one_contract, read};
-
-#[cfg(test)]
-mod tests;

@@ -2,6 +2,7 @@
 
 ghost use Rattle.std.specs.Prelude.{◌≡◌, ◌≤◌, ◌<◌, ◌++◌, length, List, IfOk, leb};
 ghost use Rattle.std.specs.List.Sorted.{IsNonDecreasingBy};
+ghost use Rattle.chc_nums.specs.declared.limits.TheConstants.{MAX_FILE_BYTES};
 ghost use Rattle.sol_reader.specs.Places.{line_of, column_of};
 ghost use Rattle.sol_reader.specs.Starts.{AreStarts, starts_from, begun, last_of};
 
@@ -9,7 +10,7 @@ use chc_nums::{List, NoMemory};
 use std::alloc::Global;
 use std::marker::Model;
 
-/// A text of at most 262,144 bytes, with the places where its lines begin. Contracts see it as the text.
+/// A text of at most `MAX_FILE_BYTES` bytes, with the places where its lines begin. Contracts see it as the text.
 #[derive(Drop)]
 pub struct Lines<'a> {
     text: &'a [u8],
@@ -29,7 +30,7 @@ impl<'a> Model for Lines<'a> {
 
 // The places where lines begin, but for the first.
 fn starts(alloc: Global, text: &[u8]) -> Result<List<u32>, NoMemory>
-    requires { length text.now ≤ 262144 }
+    requires { length text.now ≤ MAX_FILE_BYTES }
     ensures { IfOk result (λ ss. ss ≡ starts_from 0 text.now) }
 {
     let mut starts = List::new(alloc);
@@ -89,7 +90,7 @@ fn column_in(text: &[u8], starts: &[u32], at: u32) -> u32
 impl Lines<'_> {
     /// The lines of a text.
     pub fn new(alloc: Global, text: &[u8]) -> Result<Lines<'_>, NoMemory>
-        requires { length text.now ≤ 262144 }
+        requires { length text.now ≤ MAX_FILE_BYTES }
         ensures { IfOk result (λ l. l ≡ text.now) }
     {
         let starts = starts(alloc, text)?;

@@ -1,6 +1,7 @@
 // From the tree of a file to its contract.
 
 ghost use Rattle.std.specs.Prelude.{◌≡◌, ◌≤◌, ℕ, List, length};
+ghost use Rattle.chc_nums.specs.declared.limits.TheConstants.{MAX_FILE_BYTES};
 ghost use Rattle.sol_tree.specs.declared.file.File.{File};
 ghost use Rattle.sol_first.specs.declared.contract.Contract.{Contract};
 ghost use Rattle.sol_reader.specs.Language.{IsFirst, Reads};
@@ -13,11 +14,11 @@ use sol_first::Contract;
 use sol_tree::File;
 use std::alloc::Global;
 
-/// The contract of a file: its text, of at most 262,144 bytes, and its tree. `NotBuilt` says that the tree is that of no
+/// The contract of a file: its text, of at most `MAX_FILE_BYTES` bytes, and its tree. `NotBuilt` says that the tree is that of no
 /// contract of the language.
 #[tactic(auto, using(crate::proofs::Sources::sources))]
 pub fn read(alloc: Global, text: &[u8], file: &File) -> Result<Contract, ReadFault>
-    requires { length text.now ≤ 262144 }
+    requires { length text.now ≤ MAX_FILE_BYTES }
     ensures { Reads text.now file.now result }
 {
     let lines = Lines::new(alloc, text)?;

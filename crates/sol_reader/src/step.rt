@@ -1,6 +1,7 @@
 // Steps, from statements.
 
 ghost use Rattle.std.specs.Prelude.{◌≡◌, ◌≤◌, length};
+ghost use Rattle.chc_nums.specs.declared.limits.TheConstants.{MAX_VARIABLES};
 ghost use Rattle.sol_reader.specs.Reading.{place_from, variable_of, number_of, order_of, test_of, changed, change_of, value_of, assignment_of, step_of};
 
 use crate::lines::Lines;
@@ -18,7 +19,7 @@ struct Test {
 
 // The first place of a name among the variables.
 fn place_of(name: &Name, variables: &[Variable]) -> Option<u32>
-    requires { length variables.now ≤ 48 }
+    requires { length variables.now ≤ MAX_VARIABLES }
     ensures { result ≡ place_from 0 name.now variables.now }
 {
     let mut place = 0;
@@ -36,7 +37,7 @@ fn place_of(name: &Name, variables: &[Variable]) -> Option<u32>
 // The variable that an expression names.
 #[tactic(auto, unfolding(crate::specs::Reading::variable_of))]
 fn variable_of(variables: &[Variable], tree: &ExprTree) -> Option<u32>
-    requires { length variables.now ≤ 48 }
+    requires { length variables.now ≤ MAX_VARIABLES }
     ensures { result ≡ variable_of variables.now tree.now }
 {
     match tree {
@@ -74,7 +75,7 @@ fn order_of(operator: BinaryOp) -> Option<Order>
 // A variable, a comparison and a number.
 #[tactic(auto, unfolding(crate::specs::Reading::test_of))]
 fn test_of(variables: &[Variable], tree: &ExprTree) -> Option<Test>
-    requires { length variables.now ≤ 48 }
+    requires { length variables.now ≤ MAX_VARIABLES }
     ensures { result ≡ test_of variables.now tree.now }
 {
     match tree {
@@ -129,7 +130,7 @@ fn changed(
 
 #[tactic(auto, unfolding(crate::specs::Reading::change_of))]
 fn change_of(lines: &Lines<'_>, variables: &[Variable], to: u32, tree: &ExprTree) -> Option<Step>
-    requires { length variables.now ≤ 48 }
+    requires { length variables.now ≤ MAX_VARIABLES }
     ensures { result ≡ change_of lines.now variables.now to tree.now }
 {
     match tree {
@@ -151,7 +152,7 @@ fn change_of(lines: &Lines<'_>, variables: &[Variable], to: u32, tree: &ExprTree
 // A number, a variable, a sum or a difference that is assigned.
 #[tactic(auto, unfolding(crate::specs::Reading::value_of))]
 fn value_of(lines: &Lines<'_>, variables: &[Variable], to: u32, tree: &ExprTree) -> Option<Step>
-    requires { length variables.now ≤ 48 }
+    requires { length variables.now ≤ MAX_VARIABLES }
     ensures { result ≡ value_of lines.now variables.now to tree.now }
 {
     if let Some(number) = number_of(tree) {
@@ -164,7 +165,7 @@ fn value_of(lines: &Lines<'_>, variables: &[Variable], to: u32, tree: &ExprTree)
 }
 
 fn assignment_of(lines: &Lines<'_>, variables: &[Variable], simple: &Simple) -> Option<Step>
-    requires { length variables.now ≤ 48 }
+    requires { length variables.now ≤ MAX_VARIABLES }
     ensures { result ≡ assignment_of lines.now variables.now simple.now }
 {
     match simple {
@@ -184,7 +185,7 @@ fn assignment_of(lines: &Lines<'_>, variables: &[Variable], simple: &Simple) -> 
 /// The step of a statement.
 #[tactic(auto, unfolding(crate::specs::Reading::step_of))]
 pub fn step_of(lines: &Lines<'_>, variables: &[Variable], statement: &Stmt) -> Option<Step>
-    requires { length variables.now ≤ 48 }
+    requires { length variables.now ≤ MAX_VARIABLES }
     ensures { result ≡ step_of lines.now variables.now statement.now }
 {
     match statement {

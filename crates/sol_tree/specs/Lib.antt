@@ -1,4 +1,10 @@
+pub mod GrammarWords
+pub mod Numerals
+pub mod Operators
 pub mod Places
 pub mod Precedence
 pub mod Refused
+pub mod RefusedWords
+pub mod Types
+pub mod Units
 pub mod Words

@@ -1,9 +1,9 @@
 -- The words of Solidity that are outside the language: those of a table, and the fixed-point types.
-use Rattle.std.specs.Prelude.{ℕ, Bool, true, false, ◌&&◌, ◌||◌, ◌==◌, if◌then◌else◌, List, [], ◌∷◌, map, codes}
+use Rattle.std.specs.Prelude.{ℕ, Bool, true, false, ◌&&◌, ◌||◌, ◌==◌, if◌then◌else◌, List, [], ◌∷◌, codes}
 use Rattle.std.specs.Str.{bytes_eq}
 use Rattle.std.specs.Char.{is_ascii_digit}
 use denote.Ref.{Bor}
-use Rattle.sol_tree.specs.declared.refused.TheConstants.{REFUSED_WORDS}
+use Rattle.sol_tree.specs.RefusedWords.{words_outside}
 
 -- whether a word is one of these
 abbrev pub is_one_of : List ℕ → List (List ℕ) → Bool
@@ -17,7 +17,7 @@ texts (t ∷ ts) = t.now ∷ texts ts
 
 -- the table of refused words
 unfoldable pub refused_words : List (List ℕ)
-refused_words = map (λ t. t.now) REFUSED_WORDS
+refused_words = words_outside
 
 -- digits alone
 abbrev pub is_digits : List ℕ → Bool

@@ -1,8 +1,9 @@
 // Expressions as they are written.
 
-ghost use Rattle.std.specs.Prelude.{◌≡◌};
+ghost use Rattle.std.specs.Prelude.{◌≡◌, pos};
 ghost use Rattle.sol_tree.specs.Places.{place_of};
 ghost use Rattle.sol_tree.specs.Precedence.{precedence};
+ghost use Rattle.sol_tree.specs.Units.{multiplier};
 
 use crate::types::{Identifier, Type};
 use chc_nums::{Name, Ty};
@@ -19,6 +20,24 @@ pub enum NumberUnit {
     Wei,
     Gwei,
     Ether,
+}
+
+impl NumberUnit {
+    /// What the unit multiplies its number by: seconds for a time, wei for an amount.
+    pub fn multiplier(self) -> i128
+        ensures { result ≡ pos (multiplier self) }
+    {
+        match self {
+            NumberUnit::Seconds => 1,
+            NumberUnit::Minutes => 60,
+            NumberUnit::Hours => 3_600,
+            NumberUnit::Days => 86_400,
+            NumberUnit::Weeks => 604_800,
+            NumberUnit::Wei => 1,
+            NumberUnit::Gwei => 1_000_000_000,
+            NumberUnit::Ether => 1_000_000_000_000_000_000,
+        }
+    }
 }
 
 /// An operator between two operands.
@@ -210,30 +229,4 @@ pub struct Arguments {
 pub struct Initial {
     pub at: u32,
     pub value: ExprTree,
-}
-
-#[cfg(test)]
-mod tests {
-    use crate::expr::{BinaryOp, ExprTree};
-
-    #[test]
-    fn binds_so_loosely(rt: HostRuntime) {
-        for (operator, want) in [
-            (BinaryOp::Power, 3),
-            (BinaryOp::Remainder, 4),
-            (BinaryOp::Subtract, 5),
-            (BinaryOp::GreaterEqual, 6),
-            (BinaryOp::NotEqual, 7),
-            (BinaryOp::And, 8),
-            (BinaryOp::Or, 9),
-        ] {
-            assert_eq!(rt; operator.precedence(), want, "at {operator:?}");
-        }
-    }
-
-    #[test]
-    fn begins_there(rt: HostRuntime) {
-        let tree = ExprTree::True { at: 7 };
-        assert_eq!(rt; tree.at(), 7);
-    }
 }

@@ -68,23 +68,23 @@ pub struct Override {
     pub names: List<Identifier>,
 }
 
-/// A mark of a variable.
+/// A specifier of a variable.
 #[derive(Drop)]
-pub enum VarMark {
+pub enum VarSpecifier {
     Public { at: u32 },
     Internal { at: u32 },
     Private { at: u32 },
     Constant { at: u32 },
     Immutable { at: u32 },
-    Override { at: u32, mark: Override },
+    Override { at: u32, specifier: Override },
 }
 
-/// `type {varmark} ID [= expr] ;`
+/// `type {varspecifier} ID [= expr] ;`
 #[derive(Drop)]
 pub struct Var {
     pub at: u32,
     pub ty: Type,
-    pub marks: List<VarMark>,
+    pub specifiers: List<VarSpecifier>,
     pub name: Identifier,
     pub initial: Option<Initial>,
 }
@@ -97,9 +97,9 @@ pub struct Param {
     pub name: Option<Identifier>,
 }
 
-/// A mark of a function. A base is a modifier's use.
+/// A specifier of a function. A base is a modifier's use.
 #[derive(Drop)]
-pub enum FunMark {
+pub enum FunSpecifier {
     Public { at: u32 },
     External { at: u32 },
     Internal { at: u32 },
@@ -107,53 +107,53 @@ pub enum FunMark {
     View { at: u32 },
     Pure { at: u32 },
     Virtual { at: u32 },
-    Override { at: u32, mark: Override },
+    Override { at: u32, specifier: Override },
     Base { at: u32, base: Base },
 }
 
-/// `function ID ( [params] ) {funmark} [returns ( type [ID] )] (; | block)`. No body stands where there is a `;`.
+/// `function ID ( [params] ) {funspecifier} [returns ( type [ID] )] (; | block)`. No body stands where there is a `;`.
 #[derive(Drop)]
 pub struct Fun {
     pub at: u32,
     pub name: Identifier,
     pub params: List<Param>,
-    pub marks: List<FunMark>,
+    pub specifiers: List<FunSpecifier>,
     pub returns: Option<Param>,
     pub body: Option<Block>,
 }
 
-/// A mark of a constructor. A base is a modifier's use or a base's arguments.
+/// A specifier of a constructor. A base is a modifier's use or a base's arguments.
 #[derive(Drop)]
-pub enum ConstructorMark {
+pub enum ConstructorSpecifier {
     Public { at: u32 },
     Internal { at: u32 },
     Base { at: u32, base: Base },
 }
 
-/// `constructor ( [params] ) {mark} block`
+/// `constructor ( [params] ) {specifier} block`
 #[derive(Drop)]
 pub struct Constructor {
     pub at: u32,
     pub params: List<Param>,
-    pub marks: List<ConstructorMark>,
+    pub specifiers: List<ConstructorSpecifier>,
     pub body: Block,
 }
 
-/// A mark of a modifier.
+/// A specifier of a modifier.
 #[derive(Drop)]
-pub enum ModifierMark {
+pub enum ModifierSpecifier {
     Virtual { at: u32 },
-    Override { at: u32, mark: Override },
+    Override { at: u32, specifier: Override },
 }
 
-/// `modifier ID [( [params] )] {mark} (block | ;)`. Empty parentheses are not kept, and no body stands where there is
+/// `modifier ID [( [params] )] {specifier} (block | ;)`. Empty parentheses are not kept, and no body stands where there is
 /// a `;`.
 #[derive(Drop)]
 pub struct Modifier {
     pub at: u32,
     pub name: Identifier,
     pub params: List<Param>,
-    pub marks: List<ModifierMark>,
+    pub specifiers: List<ModifierSpecifier>,
     pub body: Option<Block>,
 }
 

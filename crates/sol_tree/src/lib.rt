@@ -14,13 +14,11 @@ mod words;
 
 pub use expr::{Arguments, BinaryOp, ExprTree, Initial, NumberUnit};
 pub use file::{
-    Base, Constructor, ConstructorMark, Error, Event, EventParam, File, Fun, FunMark, Member,
-    Modifier, ModifierMark, Override, Param, Unit, Var, VarMark,
+    Base, Constructor, ConstructorSpecifier, Error, Event, EventParam, File, Fun, FunSpecifier,
+    Member, Modifier, ModifierSpecifier, Override, Param, Unit, Var, VarSpecifier,
 };
-pub use refused::{REFUSED_WORDS, is_one_of, is_refused_word};
+pub use refused::{is_one_of, is_refused_word};
 pub use stmt::{AssignOp, Block, Simple, StepOp, Stmt, Text};
 pub use token::{Token, TokenKind};
 pub use types::{Identifier, Type};
-pub use words::{
-    GRAMMAR_WORDS, OPERATORS, TYPES, UNITS, elementary_type, is_name, number_unit, operator_of,
-};
+pub use words::{elementary_type, is_name, number_unit, operator_of};

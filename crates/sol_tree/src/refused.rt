@@ -1,10 +1,10 @@
 // The words of Solidity that are outside the language.
 
 ghost use Rattle.std.specs.Prelude.{◌≡◌};
-ghost use Rattle.sol_tree.specs.Refused.{is_digits, is_number, is_one_of, is_pair, is_refused_word, is_sized, is_sizes, texts};
+ghost use Rattle.sol_tree.specs.Refused.{is_digits, is_number, is_one_of, is_pair, is_refused_word, is_sized, is_sizes, refused_words, texts};
 
-/// The words of Solidity that are outside the language, but for the fixed-point types.
-pub const REFUSED_WORDS: [&str; 104] = [
+// The words of Solidity that are outside the language, but for the fixed-point types.
+const REFUSED_WORDS: [&str; 104] = [
     "uint",
     "int",
     "uint104",
@@ -190,58 +190,19 @@ fn is_sized(stem: &[u8], word: &[u8]) -> bool
     is_sizes(rest)
 }
 
+// Whether a word is one of the table.
+#[tactic(auto, unfolding(crate::specs::Refused::refused_words))]
+fn is_in_table(word: &[u8]) -> bool
+    ensures { result ≡ is_one_of word.now refused_words }
+{
+    is_one_of(word, &REFUSED_WORDS)
+}
+
 /// Whether a word is outside the language: one of the table, or `fixed` or `ufixed`, alone or followed by digits,
 /// `x` and digits.
-#[tactic(auto, unfolding(crate::specs::Refused::is_refused_word, crate::specs::Refused::refused_words))]
+#[tactic(auto, unfolding(crate::specs::Refused::is_refused_word))]
 pub fn is_refused_word(word: &[u8]) -> bool
     ensures { result ≡ is_refused_word word.now }
 {
-    is_one_of(word, &REFUSED_WORDS) || is_sized(b"fixed", word) || is_sized(b"ufixed", word)
-}
-
-#[cfg(test)]
-mod tests {
-    use crate::refused::is_refused_word;
-
-    #[test]
-    fn refuses_these_words(rt: HostRuntime) {
-        for (word, want) in [
-            ("uint", true),
-            ("int", true),
-            ("uint8", false),
-            ("uint96", false),
-            ("uint100", false),
-            ("uint104", true),
-            ("int112", true),
-            ("uint256", true),
-            ("int256", true),
-            ("uint264", false),
-            ("bytes", true),
-            ("bytes0", false),
-            ("bytes1", true),
-            ("bytes32", true),
-            ("bytes33", false),
-            ("byte", false),
-            ("string", true),
-            ("fixed", true),
-            ("ufixed", true),
-            ("fixed8x8", true),
-            ("ufixed128x18", true),
-            ("fixed8", false),
-            ("fixed8x", false),
-            ("fixedx8", false),
-            ("fixed8x8x", false),
-            ("ufixed_", false),
-            ("struct", true),
-            ("selfdestruct", true),
-            ("pragma", false),
-            ("hex", false),
-            ("mapping", false),
-            ("super", false),
-            ("This", false),
-            ("", false),
-        ] {
-            assert_eq!(rt; is_refused_word(word.as_bytes()), want, "at {word}");
-        }
-    }
+    is_in_table(word) || is_sized(b"fixed", word) || is_sized(b"ufixed", word)
 }

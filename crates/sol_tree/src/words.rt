@@ -7,8 +7,8 @@ use crate::expr::{BinaryOp, NumberUnit};
 use crate::refused::is_one_of;
 use chc_nums::Ty;
 
-/// The words of the grammar, but for those of types and units. `error` is a name too, and is not among them.
-pub const GRAMMAR_WORDS: [&str; 42] = [
+// The words of the grammar, but for those of types and units. `error` is a name too, and is not among them.
+const GRAMMAR_WORDS: [&str; 42] = [
     "abstract",
     "contract",
     "interface",
@@ -53,8 +53,8 @@ pub const GRAMMAR_WORDS: [&str; 42] = [
     "super",
 ];
 
-/// The elementary types.
-pub const TYPES: [(&str, Ty); 26] = [
+// The elementary types.
+const TYPES: [(&str, Ty); 26] = [
     ("bool", Ty::Bool),
     ("address", Ty::Addr),
     ("uint8", Ty::Uint(1)),
@@ -83,8 +83,8 @@ pub const TYPES: [(&str, Ty); 26] = [
     ("int96", Ty::Int(12)),
 ];
 
-/// The units of numbers.
-pub const UNITS: [(&str, NumberUnit); 8] = [
+// The units of numbers.
+const UNITS: [(&str, NumberUnit); 8] = [
     ("seconds", NumberUnit::Seconds),
     ("minutes", NumberUnit::Minutes),
     ("hours", NumberUnit::Hours),
@@ -95,8 +95,8 @@ pub const UNITS: [(&str, NumberUnit); 8] = [
     ("ether", NumberUnit::Ether),
 ];
 
-/// The operators between two operands.
-pub const OPERATORS: [(&str, BinaryOp); 14] = [
+// The operators between two operands.
+const OPERATORS: [(&str, BinaryOp); 14] = [
     ("**", BinaryOp::Power),
     ("*", BinaryOp::Multiply),
     ("/", BinaryOp::Divide),
@@ -159,42 +159,4 @@ pub fn is_name(word: &[u8]) -> bool
     !is_one_of(word, &GRAMMAR_WORDS)
         && elementary_type(word).is_none()
         && number_unit(word).is_none()
-}
-
-#[cfg(test)]
-mod tests {
-    use crate::expr::{BinaryOp, NumberUnit};
-    use crate::words::{elementary_type, is_name, number_unit, operator_of};
-    use chc_nums::Ty;
-
-    #[test]
-    fn names(rt: HostRuntime) {
-        for (word, want) in [
-            ("x", true),
-            ("error", true),
-            ("length", true),
-            ("uintN", true),
-            ("uint7", true),
-            ("new_", true),
-            ("_", false),
-            ("type", false),
-            ("super", false),
-            ("indexed", false),
-            ("uint96", false),
-            ("bool", false),
-            ("gwei", false),
-        ] {
-            assert_eq!(rt; is_name(word.as_bytes()), want, "at {word}");
-        }
-    }
-
-    #[test]
-    fn spellings(rt: HostRuntime) {
-        assert_eq!(rt; elementary_type(b"int16"), Some(Ty::Int(2)));
-        assert_eq!(rt; elementary_type(b"address"), Some(Ty::Addr));
-        assert_eq!(rt; elementary_type(b"uint104"), None);
-        assert_eq!(rt; number_unit(b"days"), Some(NumberUnit::Days));
-        assert_eq!(rt; operator_of(b">="), Some(BinaryOp::GreaterEqual));
-        assert_eq!(rt; operator_of(b"="), None);
-    }
 }

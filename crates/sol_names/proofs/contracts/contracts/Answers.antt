@@ -6,7 +6,7 @@ use Rattle.sol_tree.specs.declared.types.Identifier.{Identifier}
 use Rattle.sol_names.specs.Names.{number_of}
 use Rattle.sol_names.specs.Units.{unit_name}
 use Rattle.sol_names.specs.Orders.{is_contract_of, contract_named}
-use Rattle.sol_names.proofs.Naming.{Numbers, contracts-set, contracts-kept}
+use Rattle.sol_names.proofs.Naming.{contracts-set, contracts-kept}
 use Rattle.sol_names.proofs.contracts.contracts.Goals as goal
 use Rattle.sol_names.proofs.contracts.contracts.Goals.{then-is_first+in_ok-set_number, else-is_first}
 
@@ -23,9 +23,9 @@ loop-rest-preserved c q =
           let new = w.set_number.new.numbers in
           let name : w.unit_name.result.text.now ≡ (unit_name u).name = ap (λ (i : Identifier). i.name) w.unit_name.ensures in
           let set : number_of new q ≡ (if bytes_eq (unit_name u).name q then Some k else number_of old q) = w.in_ok-set_number.ensures q ∙ ap (λ (n : List ℕ). if bytes_eq n q then Some k else number_of old q) name in
-          subst (λ (m : Numbers). option_or (number_of m q) later ≡ whole) (sym w.numbers-is)
+          subst (λ m. option_or (number_of m q) later ≡ whole) (sym w.numbers-is)
           (contracts-set q u rest old new k c.in_ok-place.place whole c.in-len1-up.len_at_least c.unit-item.is c.in_ok-place.ensures (sym c.is_first.ensures ∙ w.if-is_first.true) set (c.loop-rest.invariant q))
       | else-is_first w ↦
-          subst (λ (m : Numbers). option_or (number_of m q) later ≡ whole) (sym w.numbers-is)
+          subst (λ m. option_or (number_of m q) later ≡ whole) (sym w.numbers-is)
           (contracts-kept q u rest old k c.in_ok-place.place whole c.in-len1-up.len_at_least c.unit-item.is c.in_ok-place.ensures (sym c.is_first.ensures ∙ w.if-is_first.false) (c.loop-rest.invariant q))
     ]

@@ -32,12 +32,12 @@ suffixes_at-loop-turn-preserved g c =
 pub operands_at-loop-turn-preserved : goal.operands_at-loop-turn-preserved
 operands_at-loop-turn-preserved g c =
     let low : c.loop-turn.height ≤ c.args.inner = search rules in
-    let e : operand_at c.args.level c.args.right (expr_at c.args.inner) c.loop-turn.rest.now ≡ Some (c.in-Some.operand, c.in-Some.operand_height, c.in-Some.after.now) = search rules in
+    let e : operand_at c.args.precedence c.args.right (expr_at c.args.inner) c.loop-turn.rest.now ≡ Some (c.in-Some.operand, c.in-Some.operand_height, c.in-Some.after.now) = search rules in
     let small : c.in-Some.operand_height ≤ c.args.inner = search rules in
     let some : 0 < c.args.most - c.loop-turn._turn = search rules in
     let next : c.args.most - c.loop-turn._turn - 1 ≡ c.args.most - (c.loop-turn._turn + 1) = omega arith in
     let node : joined c.loop-turn.so_far c.in-Some.operand ≡ c.in_ok-so_far.so_far = search rules in
     let top : max c.loop-turn.height c.in-Some.operand_height ≡ c.max-height.result = search rules in
-    let turn = grow-turn joined c.args.inner (operand_at c.args.level c.args.right (expr_at c.args.inner)) (c.args.most - c.loop-turn._turn) c.loop-turn.so_far c.loop-turn.height c.loop-turn.rest.now c.in-Some.operand c.in-Some.operand_height c.in-Some.after.now some low e in
+    let turn = grow-turn joined c.args.inner (operand_at c.args.precedence c.args.right (expr_at c.args.inner)) (c.args.most - c.loop-turn._turn) c.loop-turn.so_far c.loop-turn.height c.loop-turn.rest.now c.in-Some.operand c.in-Some.operand_height c.in-Some.after.now some low e in
     let within : max c.loop-turn.height c.in-Some.operand_height ≤ c.args.inner = omega (arith, low, small) in
     (rw (sym next, sym node, sym top) (sym turn ∙ c.loop-turn.invariant.0), omega (arith, within, top))

@@ -3,7 +3,7 @@ use Rattle.sol_parse_expr.specs.Reading.{arguments_at, expr_at, grow, joined, op
 use Rattle.sol_parse_expr.proofs.expr.+expressions.Given as goal
 
 abbrev pub decreases-expr_at : goal.decreases-expr_at
-decreases-expr_at l = l.levels * 2 ^ 40
+decreases-expr_at l = l.levels_left * 2 ^ 40
 
 abbrev pub decreases-argument_at : goal.decreases-argument_at
 decreases-argument_at l = l.inner * 2 ^ 40 + 1
@@ -66,10 +66,10 @@ abbrev pub decreases-more_at : goal.decreases-more_at
 decreases-more_at l = l.inner * 2 ^ 40 + 9
 
 abbrev pub decreases-loose_at : goal.decreases-loose_at
-decreases-loose_at l = l.inner * 2 ^ 40 + (l.level * 2 + 10)
+decreases-loose_at l = l.inner * 2 ^ 40 + (l.precedence * 2 + 10)
 
 abbrev pub decreases-rung_at : goal.decreases-rung_at
-decreases-rung_at l = l.inner * 2 ^ 40 + (l.level * 2 + 11)
+decreases-rung_at l = l.inner * 2 ^ 40 + (l.precedence * 2 + 11)
 
 abbrev pub invariant-arguments_at-loop-turn : goal.invariant-arguments_at-loop-turn
 invariant-arguments_at-loop-turn l = (arguments_at (expr_at l.inner) (l._turn-end - l._turn) l.so_far l.height l.rest ≡ arguments_at (expr_at l.fn.inner) (length l.fn.tokens) l.fn.first l.fn.first_height l.fn.tokens) × (l.height ≤ l.inner)
@@ -78,4 +78,4 @@ abbrev pub invariant-suffixes_at-loop-turn : goal.invariant-suffixes_at-loop-tur
 invariant-suffixes_at-loop-turn l = (grow suffixed l.inner (suffix_at (expr_at l.inner)) (l._turn-end - l._turn) l.so_far l.height l.rest ≡ grow suffixed l.fn.inner (suffix_at (expr_at l.fn.inner)) (length l.fn.tokens) l.fn.first l.fn.first_height l.fn.tokens) × (l.height ≤ l.inner + 1)
 
 abbrev pub invariant-operands_at-loop-turn : goal.invariant-operands_at-loop-turn
-invariant-operands_at-loop-turn l = (grow joined l.inner (operand_at l.level l.right (expr_at l.inner)) (l.fn.most - l._turn) l.so_far l.height l.rest ≡ grow joined l.fn.inner (operand_at l.fn.level l.fn.right (expr_at l.fn.inner)) l.fn.most l.fn.first l.fn.first_height l.fn.tokens) × (l.height ≤ l.inner + 1)
+invariant-operands_at-loop-turn l = (grow joined l.inner (operand_at l.precedence l.right (expr_at l.inner)) (l.fn.most - l._turn) l.so_far l.height l.rest ≡ grow joined l.fn.inner (operand_at l.fn.precedence l.fn.right (expr_at l.fn.inner)) l.fn.most l.fn.first l.fn.first_height l.fn.tokens) × (l.height ≤ l.inner + 1)

@@ -12,10 +12,10 @@ read c = rw (take_rest c.args.tokens.now c.args.from, c.in-Some.is) at c.in_ok-t
 pub returns-in_default : goal.returns-in_default
 returns-in_default c =
     let none : expr_at (129 - c.args.level) 10 (drop c.args.from c.args.tokens.now) ≡ None = rw (take_rest c.args.tokens.now c.args.from, c.in_default.is) at c.in_ok-tree.ensures.read in
-    (found-none c.args.tokens.now c.args.from c.args.level c.requires.levels.1 none, c.place.ensures)
+    (found-none c.args.tokens.now c.args.from c.args.level c.requires.levels_left.1 none, c.place.ensures)
 
 pub overflow_sub-result : goal.overflow_sub-result
 overflow_sub-result c = found-fewer c.args.tokens.now c.args.from (129 - c.args.level) c.in-Some.tree c.in-Some.field-0-1 c.in-Some.after.now (read c)
 
 pub returns : goal.returns
-returns c = (found-stands c.args.tokens.now c.args.from c.args.level c.in-Some.tree c.in-Some.field-0-1 c.in-Some.after.now c.requires.within c.requires.levels.1 (read c), found-longest c.args.tokens.now c.args.from c.args.level c.in-Some.tree c.in-Some.field-0-1 c.in-Some.after.now c.requires.levels.1 (read c))
+returns c = (found-stands c.args.tokens.now c.args.from c.args.level c.in-Some.tree c.in-Some.field-0-1 c.in-Some.after.now c.requires.within c.requires.levels_left.1 (read c), found-longest c.args.tokens.now c.args.from c.args.level c.in-Some.tree c.in-Some.field-0-1 c.in-Some.after.now c.requires.levels_left.1 (read c))

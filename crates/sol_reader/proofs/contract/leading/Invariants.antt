@@ -1,4 +1,4 @@
-use Rattle.std.proofs.Common.{◌≡◌, ◌+◌, ◌≤◌, length}
+use Rattle.std.proofs.Common.{◌≡◌, ◌+◌, length}
 use Rattle.sol_reader.specs.Reading.{leading}
 use Rattle.sol_reader.proofs.contract.leading.Given as goal
 

@@ -1,5 +1,5 @@
-use Rattle.std.proofs.Common.{◌≡◌, ◌-◌, ◌≤◌, get_or, arith}
-use Rattle.sol_reader.specs.Starts.{begun, last_of}
+use Rattle.std.proofs.Common.{◌≡◌, ◌-◌, get_or, arith}
+use Rattle.sol_reader.specs.Starts.{last_of}
 use Rattle.sol_reader.proofs.Points.{last-at, last-within}
 use Rattle.sol_reader.proofs.lines.start.Goals as goal
 

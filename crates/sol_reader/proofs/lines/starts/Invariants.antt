@@ -1,4 +1,4 @@
-use Rattle.std.proofs.Common.{◌≡◌, ◌++◌, ◌≤◌, drop}
+use Rattle.std.proofs.Common.{◌≡◌, ◌++◌, drop}
 use Rattle.sol_reader.specs.Starts.{starts_from}
 use Rattle.sol_reader.proofs.lines.starts.Given as goal
 
