@@ -9,7 +9,7 @@ use Rattle.chc_nums.specs.declared.Ty.TheVariants as ty
 use Rattle.chc_nums.specs.declared.Op.{Op}
 use Rattle.chc_nums.specs.declared.Num.TheVariants as num
 use Rattle.chc_nums.specs.Types.{InRange, least, greatest, placed, judged}
-use Rattle.sol_core.specs.declared.Marks.{Marks}
+use Rattle.sol_core.specs.declared.PanicSites.{PanicSites}
 use Rattle.sol_core.specs.declared.Expr.{Expr, Cast}
 use Rattle.sol_core.specs.declared.Place.TheVariants as place
 use Rattle.sol_core.specs.declared.Stmt.{Set}
@@ -46,7 +46,7 @@ placed-cases t z = grind (arith, ints)
 pub condition-value : (vars : List Variable) (i : ℕ) (o : Order) (n : ℤ) (w : World) → eval (condition vars i o n) w ≡ (got.Value (truth (compared (cmp_of o) (number_at w.state.scalars i) n)), w)
 condition-value vars i o n w = rw (eval-Compare, eval-Scalar, eval-Num) refl
 
-pub shifted-value : (vars : List Variable) (o : Op) (from : ℕ) (n : ℤ) (m : Marks) (w : World) → eval (shifted vars o from n m) w ≡ arithmetic (judged o (type_at vars from) (number_at w.state.scalars from) n) m w
+pub shifted-value : (vars : List Variable) (o : Op) (from : ℕ) (n : ℤ) (m : PanicSites) (w : World) → eval (shifted vars o from n m) w ≡ arithmetic (judged o (type_at vars from) (number_at w.state.scalars from) n) m w
 shifted-value vars o from n m w = rw (eval-Arith, eval-Scalar, eval-Num) refl
 
 cast-value : (b : Bool) (s t : Ty) (e : Expr) (z : ℤ) (w : World) → wrapped t z ≡ z → eval e w ≡ (got.Value z, w) → eval (if b then e else Cast s t e) w ≡ (got.Value z, w)

@@ -9,14 +9,14 @@ use Rattle.chc_nums.specs.declared.Op.TheVariants as op
 use Rattle.chc_nums.specs.declared.Num as num
 use Rattle.chc_form.specs.declared.Row.{Row}
 use Rattle.sol_core.specs.declared.Expr.{Expr, Num, Scalar}
-use Rattle.sol_core.specs.declared.Marks.{Marks}
+use Rattle.sol_core.specs.declared.PanicSites.{PanicSites}
 use Rattle.sol_first.specs.declared.Variable.{Variable}
 use Rattle.sol_first.specs.declared.Order.{Order}
 use Rattle.sol_first.specs.declared.Order.TheVariants as order
 use Rattle.sol_first.specs.declared.Step.{Step}
 use Rattle.sol_first.specs.declared.Step.TheVariants as step
 use Rattle.sol_first.specs.Typed.{size_at, IsValue, StepTyped}
-use Rattle.sol_first.specs.Elaborated.{cmp_of, condition, converted, shifted, type_at, stmt_of, stmts_of, marks_over, marks_under, sites_of_step}
+use Rattle.sol_first.specs.Elaborated.{cmp_of, condition, converted, shifted, type_at, stmt_of, stmts_of, over_site, under_site, sites_of_step}
 use Rattle.sol_meaning.specs.declared.World.{World}
 use Rattle.sol_meaning.specs.declared.Got.{Got}
 use Rattle.sol_meaning.specs.declared.Got.TheVariants as got
@@ -134,14 +134,14 @@ step-goes vars (step.Add l c to from n) site p x w t h s =
     let k : x (now_at p from) +ℤ n ≡ x (next_at p) = shift-rows (now_at p from) (next_at p) n (neg_ℤ n) x (within (next_at p) (most vars from)) refl rows in
     let r : (pos 0 ≤ℤ x (next_at p)) × (x (next_at p) ≤ℤ most vars from) = range-rows (next_at p) (most vars from) x (hold-right a (within (next_at p) (most vars from)) x rows) in
     let m : number_at w.state.scalars from +ℤ n ≡ x (next_at p) = ap (λ (y : ℤ). y +ℤ n) (s.values from t.1) ∙ k in
-    let e : Expr = shifted vars op.Add from n (marks_over site) in
+    let e : Expr = shifted vars op.Add from n (over_site site) in
     elim (placed-cases (type_at vars from) (z +ℤ n)) [
       | inl u ↦ absurd (omega (arith, ints, u.1, m, r.0))
       | inr g ↦ elim g [
         | inl u ↦ absurd (omega (arith, ints, u.1, m, r.1))
         | inr u ↦
             let v : IsValue vars to (z +ℤ n) = widened (size_at vars from) (size_at vars to) (z +ℤ n) t.2 u.1 in
-            value-goes vars to (z +ℤ n) more p x w (exec (stmt_of vars site (step.Add l c to from n)) w) (set-value to (converted vars from to e) (z +ℤ n) w (converted-value vars from to e (z +ℤ n) w v (shifted-value vars op.Add from n (marks_over site) w ∙ ap (λ (j : num.Num). arithmetic j (marks_over site) w) u.0))) t.0 v m s
+            value-goes vars to (z +ℤ n) more p x w (exec (stmt_of vars site (step.Add l c to from n)) w) (set-value to (converted vars from to e) (z +ℤ n) w (converted-value vars from to e (z +ℤ n) w v (shifted-value vars op.Add from n (over_site site) w ∙ ap (λ (j : num.Num). arithmetic j (over_site site) w) u.0))) t.0 v m s
       ]
     ]
 step-goes vars (step.Subtract l c to from n) site p x w t h s =
@@ -153,14 +153,14 @@ step-goes vars (step.Subtract l c to from n) site p x w t h s =
     let r : (pos 0 ≤ℤ x (next_at p)) × (x (next_at p) ≤ℤ most vars from) = range-rows (next_at p) (most vars from) x (hold-right a (within (next_at p) (most vars from)) x rows) in
     let j : number_at w.state.scalars from ≡ x (now_at p from) = s.values from t.1 in
     let m : number_at w.state.scalars from -ℤ n ≡ x (next_at p) = omega (arith, ints, j, k) in
-    let e : Expr = shifted vars op.Sub from n (marks_under site) in
+    let e : Expr = shifted vars op.Sub from n (under_site site) in
     elim (placed-cases (type_at vars from) (z -ℤ n)) [
       | inl u ↦ absurd (omega (arith, ints, u.1, m, r.0))
       | inr g ↦ elim g [
         | inl u ↦ absurd (omega (arith, ints, u.1, m, r.1))
         | inr u ↦
             let v : IsValue vars to (z -ℤ n) = widened (size_at vars from) (size_at vars to) (z -ℤ n) t.2 u.1 in
-            value-goes vars to (z -ℤ n) more p x w (exec (stmt_of vars site (step.Subtract l c to from n)) w) (set-value to (converted vars from to e) (z -ℤ n) w (converted-value vars from to e (z -ℤ n) w v (shifted-value vars op.Sub from n (marks_under site) w ∙ ap (λ (j : num.Num). arithmetic j (marks_under site) w) u.0))) t.0 v m s
+            value-goes vars to (z -ℤ n) more p x w (exec (stmt_of vars site (step.Subtract l c to from n)) w) (set-value to (converted vars from to e) (z -ℤ n) w (converted-value vars from to e (z -ℤ n) w v (shifted-value vars op.Sub from n (under_site site) w ∙ ap (λ (j : num.Num). arithmetic j (under_site site) w) u.0))) t.0 v m s
       ]
     ]
 
@@ -188,7 +188,7 @@ step-strikes vars (step.Put to n) site p x w t h s = absurd h
 step-strikes vars (step.Move to from) site p x w t h s = absurd h
 step-strikes vars (step.Add l c to from n) site p x w t h s =
     let z : ℤ = number_at w.state.scalars from in
-    let m : Marks = marks_over site in
+    let m : PanicSites = over_site site in
     let e : Expr = shifted vars op.Add from n m in
     let u : World = record w { hits = w.hits ++ site ∷ [] } in
     let lo : pos 0 ≤ℤ number_at w.state.scalars from = (s.typed.ranges from t.1).0 in
@@ -204,7 +204,7 @@ step-strikes vars (step.Add l c to from n) site p x w t h s =
     ]
 step-strikes vars (step.Subtract l c to from n) site p x w t h s =
     let z : ℤ = number_at w.state.scalars from in
-    let m : Marks = marks_under site in
+    let m : PanicSites = under_site site in
     let e : Expr = shifted vars op.Sub from n m in
     let u : World = record w { hits = w.hits ++ site ∷ [] } in
     let hi : number_at w.state.scalars from ≤ℤ most vars from = (s.typed.ranges from t.1).1 in

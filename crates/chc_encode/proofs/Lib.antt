@@ -1,10 +1,12 @@
 pub mod Bodies
 pub mod Computes
+pub mod Counting
 pub mod Examples
 pub mod Follows
 pub mod Forms
 pub mod Laws
 pub mod Made
+pub mod Making
 pub mod Places
 pub mod Queries
 pub mod Reaches

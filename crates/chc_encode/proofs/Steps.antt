@@ -10,13 +10,13 @@ use Rattle.chc_form.specs.declared.Row.{Row}
 use Rattle.chc_form.specs.declared.Sort.TheVariants as sort
 use Rattle.chc_form.specs.Valuations.{HasSorts}
 use Rattle.sol_core.specs.declared.Expr.{Expr, Num, Scalar}
-use Rattle.sol_core.specs.declared.Marks.{Marks}
+use Rattle.sol_core.specs.declared.PanicSites.{PanicSites}
 use Rattle.sol_first.specs.declared.Variable.{Variable}
 use Rattle.sol_first.specs.declared.Order.{Order}
 use Rattle.sol_first.specs.declared.Step.{Step}
 use Rattle.sol_first.specs.declared.Step.TheVariants as step
 use Rattle.sol_first.specs.Typed.{size_at, IsValue, StepTyped}
-use Rattle.sol_first.specs.Elaborated.{cmp_of, condition, converted, shifted, type_at, stmt_of, marks_over, marks_under}
+use Rattle.sol_first.specs.Elaborated.{cmp_of, condition, converted, shifted, type_at, stmt_of, over_site, under_site}
 use Rattle.sol_meaning.specs.declared.World.{World}
 use Rattle.sol_meaning.specs.declared.Got.{Got}
 use Rattle.sol_meaning.specs.declared.Got.TheVariants as got
@@ -223,7 +223,7 @@ step-done vars start (step.Move to from) site p x w t a =
     subst (Stepped vars start (step.Move to from) site p x w.hits) (sym (set-value to (converted vars from to (Scalar from)) z w (converted-value vars from to (Scalar from) z w (widened (size_at vars from) (size_at vars to) z t.2 (a.typed.ranges from t.1)) (eval-Scalar from w)))) (move-done vars start to from site p x w t.0 t.1 t.2 a)
 step-done vars start (step.Add l c to from n) site p x w t a =
     let z : ℤ = number_at w.state.scalars from in
-    let m : Marks = marks_over site in
+    let m : PanicSites = over_site site in
     let e : Expr = shifted vars op.Add from n m in
     let v = shifted-value vars op.Add from n m w in
     let lo : pos 0 ≤ℤ number_at w.state.scalars from = (a.typed.ranges from t.1).0 in
@@ -243,7 +243,7 @@ step-done vars start (step.Add l c to from n) site p x w t a =
     ]
 step-done vars start (step.Subtract l c to from n) site p x w t a =
     let z : ℤ = number_at w.state.scalars from in
-    let m : Marks = marks_under site in
+    let m : PanicSites = under_site site in
     let e : Expr = shifted vars op.Sub from n m in
     let v = shifted-value vars op.Sub from n m w in
     let hi : number_at w.state.scalars from ≤ℤ most vars from = (a.typed.ranges from t.1).1 in

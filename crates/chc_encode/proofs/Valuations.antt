@@ -10,6 +10,7 @@ use Rattle.sol_first.specs.declared.Order.TheVariants as order
 use Rattle.sol_first.specs.Elaborated.{cmp_of}
 use Rattle.sol_meaning.specs.Eval.{compared}
 use Rattle.chc_encode.specs.PathRows.{plus, minus, plus_minus, minus_plus, within, holds, opposite}
+use Rattle.chc_nums.proofs.Ring.{minus-mul}
 
 -- a row holds at a valuation
 abbrev pub Holds : Row → (ℕ → ℤ) → Type 0
@@ -27,20 +28,17 @@ hold-append (p ∷ ps) qs x h k = (h.0, hold-append ps qs x h.1 k)
 one-times : (z : ℤ) → pos 1 *ℤ z ≡ z
 one-times z = omega (arith, ints)
 
-minus-times : (z : ℤ) → negsuc 0 *ℤ z ≡ neg_ℤ z
-minus-times z = omega (arith, ints)
-
 pub plus-value : (i : ℕ) (k : ℤ) (x : ℕ → ℤ) → value_of (plus i k).lin x ≡ x i +ℤ k
 plus-value i k x = omega (arith, ints, one-times (x i))
 
 pub minus-value : (i : ℕ) (k : ℤ) (x : ℕ → ℤ) → value_of (minus i k).lin x ≡ k -ℤ x i
-minus-value i k x = omega (arith, ints, minus-times (x i))
+minus-value i k x = omega (arith, ints, minus-mul (x i))
 
 pub plus_minus-value : (i j : ℕ) (k : ℤ) (x : ℕ → ℤ) → value_of (plus_minus i j k).lin x ≡ (x i -ℤ x j) +ℤ k
-plus_minus-value i j k x = omega (arith, ints, one-times (x i), minus-times (x j))
+plus_minus-value i j k x = omega (arith, ints, one-times (x i), minus-mul (x j))
 
 pub minus_plus-value : (i j : ℕ) (k : ℤ) (x : ℕ → ℤ) → value_of (minus_plus i j k).lin x ≡ (x j -ℤ x i) +ℤ k
-minus_plus-value i j k x = omega (arith, ints, minus-times (x i), one-times (x j))
+minus_plus-value i j k x = omega (arith, ints, minus-mul (x i), one-times (x j))
 
 pub within-hold : (i : ℕ) (g : ℤ) (x : ℕ → ℤ) → pos 0 ≤ℤ x i → x i ≤ℤ g → AllHold (within i g) x
 within-hold i g x h k = (omega (arith, ints, minus-value i (pos 0) x), (omega (arith, ints, plus-value i (neg_ℤ g) x), tt))

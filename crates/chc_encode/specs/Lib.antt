@@ -1,3 +1,4 @@
+pub mod Few
 pub mod PathRows
 pub mod Sizes
 pub mod Sound

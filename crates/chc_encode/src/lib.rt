@@ -3,12 +3,11 @@
 //! a query leave no script that violates its target, and a target is derived just where some script violates it.
 #![tactic(auto)]
 
+mod few;
 mod law;
 mod path;
 mod rows;
 mod rules;
-#[cfg(test)]
-mod tests;
 
 pub use law::encoding_law;
 pub use rules::encode;

@@ -214,18 +214,8 @@ pub fn advance(
             number,
             ..
         } => {
-            let read = now_at(path, *from);
-            let greatest = most(variables, *from);
-            shift(
-                alloc,
-                variables,
-                path,
-                *to,
-                read,
-                *number,
-                opposite_number(*number),
-                greatest,
-            )
+            let less = opposite_number(*number);
+            shift(alloc, variables, path, *to, *from, *number, less)
         }
         Step::Subtract {
             to,
@@ -233,18 +223,8 @@ pub fn advance(
             number,
             ..
         } => {
-            let read = now_at(path, *from);
-            let greatest = most(variables, *from);
-            shift(
-                alloc,
-                variables,
-                path,
-                *to,
-                read,
-                opposite_number(*number),
-                *number,
-                greatest,
-            )
+            let less = opposite_number(*number);
+            shift(alloc, variables, path, *to, *from, less, *number)
         }
     }
 }
@@ -293,21 +273,22 @@ fn replace(
     assign(variables, path, to)
 }
 
-// A state variable becomes what a row variable is with a number more, which lies in a type; the number is given twice,
-// with both signs.
+// A state variable becomes what another one is now, with a number more, which lies in the type of the one read; the
+// number is given twice, with both signs.
 fn shift(
     alloc: Global,
     variables: &[Variable],
     path: &mut Path,
     to: u32,
-    read: u32,
+    from: u32,
     low: i128,
     high: i128,
-    greatest: i128,
 ) -> Result<(), NoMemory>
-    requires { IsSmall greatest }
-    ensures { OnOk result (path.new ≡ assigned variables.now path.old to (plus_minus read (next_at path.old) low ∷ minus_plus read (next_at path.old) high ∷ within (next_at path.old) greatest)) }
+    requires { IsSize (size_at variables.now from) }
+    ensures { OnOk result (path.new ≡ assigned variables.now path.old to (plus_minus (now_at path.old from) (next_at path.old) low ∷ minus_plus (now_at path.old from) (next_at path.old) high ∷ within (next_at path.old) (most variables.now from))) }
 {
+    let read = now_at(path, from);
+    let greatest = most(variables, from);
     let next = next_at(path)?;
     add_shift(alloc, &mut path.rows, read, next, low, high, greatest)?;
     assign(variables, path, to)

@@ -8,29 +8,33 @@ ghost use Rattle.sol_first.specs.Typed.{StepTyped, IsTyped};
 ghost use Rattle.chc_encode.specs.PathRows.{plus, minus, sorts_of, entry, after_all, target};
 ghost use Rattle.chc_encode.specs.Systems.{at_entry, cons_of, zeros_from, zero_rule, rule_at, rule_of, query_at, own_query, queries_of_steps, queries_of, system_of};
 
+use crate::few::are_few;
 use crate::path::{Path, advance, entry, entry_current, entry_sorts, target};
 use crate::rows::{minus, plus};
-use chc_form::{App, Con, Query, Row, Rule, Sort, System, well_made};
+use chc_form::{App, Con, Query, Row, Rule, Sort, System};
 use chc_nums::{List, NoMemory};
 use sol_first::{Contract, Function, Step, Variable};
 use std::alloc::Global;
 
 /// The Horn rules of a contract: one predicate, over its state variables; a rule for the state after deployment, and one
-/// per function; and a query per target. `NoMemory` also stands for a list of 2^31 entries.
+/// per function; and a query per target. `NoMemory` also stands for a list of 2^31 entries, and for nothing else.
 pub fn encode(alloc: Global, contract: &Contract) -> Result<System, NoMemory>
     requires { IsTyped contract.now }
     ensures equals { IfOk result (λ s. s ≡ system_of contract.now) }
     ensures well { IfOk result (λ s. well_made s ≡ true) }
 {
-    passed(system_of(alloc, contract)?)
+    passed(contract, system_of(alloc, contract)?)
 }
 
-// A system that is well made.
-fn passed(system: System) -> Result<System, NoMemory>
+// The rules of a contract are well made, unless a list is too long.
+#[tactic(auto, using(crate::proofs::Making::making))]
+fn passed(contract: &Contract, system: System) -> Result<System, NoMemory>
+    requires typed { IsTyped contract.now }
+    requires made { system ≡ system_of contract.now }
     ensures same { IfOk result (λ s. s ≡ system) }
     ensures well { IfOk result (λ s. well_made s ≡ true) }
 {
-    if well_made(&system) {
+    if are_few(&system) {
         Ok(system)
     } else {
         Err(NoMemory)

@@ -11,7 +11,7 @@ use Rattle.sol_core.specs.declared.Stmt.{Set}
 use Rattle.sol_core.specs.declared.Place.TheVariants as place
 use Rattle.chc_nums.specs.declared.Op.{Op}
 use Rattle.chc_nums.specs.declared.Op.TheVariants as op
-use Rattle.sol_core.specs.declared.Marks.{Marks}
+use Rattle.sol_core.specs.declared.PanicSites.{PanicSites}
 use Rattle.sol_first.specs.declared.Variable.{Variable}
 use Rattle.sol_first.specs.declared.Order.{Order}
 use Rattle.sol_first.specs.declared.Step.{Step}
@@ -19,7 +19,7 @@ use Rattle.sol_first.specs.declared.Step.TheVariants as step
 use Rattle.sol_first.specs.declared.Function.{Function}
 use Rattle.sol_first.specs.declared.Contract.{Contract}
 use Rattle.sol_first.specs.Typed.{size_of, size_at, StepTyped, IsTyped}
-use Rattle.sol_first.specs.Elaborated.{type_at, sites_of_step, sites_of_steps, cmp_of, condition, converted, marks_over, marks_under, shifted, stmt_of, stmts_of, fun_of, funs_of, program_of}
+use Rattle.sol_first.specs.Elaborated.{type_at, sites_of_step, sites_of_steps, cmp_of, condition, converted, over_site, under_site, shifted, stmt_of, stmts_of, fun_of, funs_of, program_of}
 use Rattle.sol_eval.specs.Sized.{is_size, type_sized, expr_sized, stmt_sized, fun_sized, is_sized}
 use Rattle.sol_eval.proofs.Sizes.{sized-Num, sized-Scalar, sized-Arith, sized-Compare, sized-Cast, sized-Set, sized-Require, sized-Assert}
 
@@ -44,7 +44,7 @@ module _ (vars : List Variable) (sizes : All (λ v. IsSize v.size) vars) where
   converted-sized : (from to : ℕ) (e : Expr) → to < length vars → expr_sized e ≡ true → expr_sized (converted vars from to e) ≡ true
   converted-sized from to e h s = either-sized (eqb (size_at vars from) (size_at vars to)) from to e h s
 
-  shifted-sized : (o : Op) (from : ℕ) (n : ℤ) (m : Marks) → from < length vars → expr_sized (shifted vars o from n m) ≡ true
+  shifted-sized : (o : Op) (from : ℕ) (n : ℤ) (m : PanicSites) → from < length vars → expr_sized (shifted vars o from n m) ≡ true
   shifted-sized o from n m h =
       sized-Arith o (type_at vars from) true (Scalar from) (Num n (type_at vars from)) m
       ∙ and_from (type_sized (type_at vars from)) (expr_sized (Scalar from) && expr_sized (Num n (type_at vars from))) (declared-sized from h)
@@ -59,9 +59,9 @@ module _ (vars : List Variable) (sizes : All (λ v. IsSize v.size) vars) where
   step-sized site (step.Put to n) h = put-sized to (Num n (type_at vars to)) (sized-Num n (type_at vars to))
   step-sized site (step.Move to from) h = put-sized to (converted vars from to (Scalar from)) (converted-sized from to (Scalar from) h.0 (sized-Scalar from))
   step-sized site (step.Add l c to from n) h =
-      put-sized to (converted vars from to (shifted vars op.Add from n (marks_over site))) (converted-sized from to (shifted vars op.Add from n (marks_over site)) h.0 (shifted-sized op.Add from n (marks_over site) h.1))
+      put-sized to (converted vars from to (shifted vars op.Add from n (over_site site))) (converted-sized from to (shifted vars op.Add from n (over_site site)) h.0 (shifted-sized op.Add from n (over_site site) h.1))
   step-sized site (step.Subtract l c to from n) h =
-      put-sized to (converted vars from to (shifted vars op.Sub from n (marks_under site))) (converted-sized from to (shifted vars op.Sub from n (marks_under site)) h.0 (shifted-sized op.Sub from n (marks_under site) h.1))
+      put-sized to (converted vars from to (shifted vars op.Sub from n (under_site site))) (converted-sized from to (shifted vars op.Sub from n (under_site site)) h.0 (shifted-sized op.Sub from n (under_site site) h.1))
 
   steps-sized : (first : ℕ) (ss : List Step) → All (StepTyped vars) ss → list_all stmt_sized (stmts_of vars first ss) ≡ true
   steps-sized first [] h = refl

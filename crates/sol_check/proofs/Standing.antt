@@ -3,6 +3,7 @@ use Rattle.std.proofs.Common.{◌≡◌, ◌∙◌, sym, ap, subst, refl, ℕ, s
 use lib.IntN.{ℤ}
 use Rattle.std.specs.List.{Contains, list_all}
 use Rattle.std.specs.Arc.{arc_value}
+use Rattle.chc_nums.specs.declared.limits.TheConstants.{MAX_TURNS}
 use Rattle.chc_form.specs.declared.System.{System}
 use Rattle.chc_form.specs.declared.Part.TheVariants as part
 use Rattle.chc_form.specs.declared.Lemma.{Lemma}
@@ -71,7 +72,7 @@ contains-middle : {A : Type 0} → (before : List A) (x : A) (after : List A) �
 contains-middle [] x after = (0, omega arith, refl)
 contains-middle (y ∷ before) x after = let i = contains-middle before x after in (suc i.0, omega (arith, i.1), i.2)
 
-unsafe-stands : (b : Basis) (t : ℕ) (x : Script) (n : ℕ) → n ≡ 1024 → IsFirstHit b.program t (Some x) → IsUnsafe b t x n
+unsafe-stands : (b : Basis) (t : ℕ) (x : Script) (n : ℕ) → n ≡ MAX_TURNS → IsFirstHit b.program t (Some x) → IsUnsafe b t x n
 unsafe-stands b t x n e h = record {
   turns = e;
   fits = probes-fit b.program x (subst (λ (ps : List Script). Contains ps x) (sym h.2) (contains-middle h.0 x h.1));

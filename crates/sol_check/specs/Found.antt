@@ -4,6 +4,7 @@ use Rattle.std.specs.Arc.{arc_value}
 use Rattle.chc_form.specs.declared.System.{System}
 use Rattle.chc_form.specs.declared.Lemma.{Lemma}
 use Rattle.chc_form.specs.declared.Part.TheVariants as part
+use Rattle.chc_nums.specs.declared.limits.TheConstants.{MAX_TURNS}
 use Rattle.chc_reduce.specs.Reduced.{reduced}
 use Rattle.chc_ask.specs.declared.Open.{Open}
 use Rattle.chc_ask.specs.declared.Asked.TheVariants as asked
@@ -32,13 +33,13 @@ stop_by (Some d) o = stop.Round d
 -- what probes say of a target whose query stays open so
 abbrev pub IsProbed : Program → List RoundStop → ℕ → Open → Verdict → Type 0
 IsProbed p drops t left (verdict.Safe ms n) = ⊥
-IsProbed p drops t left (verdict.Unsafe x n) = (n ≡ 1024) × IsFirstHit p t (Some x)
+IsProbed p drops t left (verdict.Unsafe x n) = (n ≡ MAX_TURNS) × IsFirstHit p t (Some x)
 IsProbed p drops t left (verdict.Unknown why o seen tries) = (o ≡ left) × IsFirstHit p t None × (why ≡ stop_by (first_of_limit drops) o) × (seen ≡ 0) × (tries ≡ 0)
 
 -- what was found of a target: the answer under lemmas, and then by probes
 abbrev pub VerdictFound : Program → System → List RoundStop → List Lemma → ℕ → Verdict → Type 0
 VerdictFound p s drops ls t (verdict.Safe ms n) = (n ≡ length ls) × (asked_of limits (reduced s (part.Query t) None ls) ≡ asked.Refuted ms)
-VerdictFound p s drops ls t (verdict.Unsafe x n) = (n ≡ 1024) × IsFirstHit p t (Some x)
+VerdictFound p s drops ls t (verdict.Unsafe x n) = (n ≡ MAX_TURNS) × IsFirstHit p t (Some x)
 VerdictFound p s drops ls t (verdict.Unknown why o seen tries) = (asked_of limits (reduced s (part.Query t) None ls) ≡ asked.Open o) × IsFirstHit p t None × (why ≡ stop_by (first_of_limit drops) o) × (seen ≡ 0) × (tries ≡ 0)
 
 -- verdicts on targets in order, from number t on

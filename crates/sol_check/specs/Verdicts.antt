@@ -1,6 +1,7 @@
 -- When a verdict on a target is right.
 use Rattle.std.specs.Prelude.{◌≡◌, ◌⊎◌, ◌≤◌, ℕ, suc, List, [], ◌∷◌, length, take, Option, Some, None}
 use lib.IntN.{ℤ}
+use Rattle.chc_nums.specs.declared.limits.TheConstants.{MAX_NODES, MAX_PIVOTS, MAX_TURNS}
 use Rattle.chc_form.specs.declared.Limits.{Limits}
 use Rattle.chc_form.specs.declared.Formula.{Formula}
 use Rattle.chc_form.specs.declared.System.{System}
@@ -27,7 +28,7 @@ use Rattle.sol_report.specs.declared.Verdict.TheVariants as verdict
 
 -- how far each question goes
 abbrev pub limits : Limits
-limits = record { pivots = 100000; nodes = 65536 }
+limits = record { pivots = MAX_PIVOTS; nodes = MAX_NODES }
 
 -- what verdicts rest on: the program, its rule system, the drops of the template rounds, the lemmas that were kept, and those
 -- of the pool
@@ -70,11 +71,11 @@ pub record IsSafe (b : Basis) (t : ℕ) (ms : List ℤ) (n : ℕ) : Type 0 where
   pub refutes : Refutes ms (rows_of (query_under b t (take n b.pool)))
   pub never : (x : Script) (k : ℕ) → Fits b.program x → Violates b.program t x k → ⊥
 
--- the script fits and violates the target within 1,024 turns, and is the first probe that does
+-- the script fits and violates the target within as many turns as a run has at most, and is the first probe that does
 pub record IsUnsafe (b : Basis) (t : ℕ) (x : Script) (n : ℕ) : Type 0 where
-  pub turns : n ≡ 1024
+  pub turns : n ≡ MAX_TURNS
   pub fits : Fits b.program x
-  pub violates : Violates b.program t x 1024
+  pub violates : Violates b.program t x MAX_TURNS
   pub first : IsFirstHit b.program t (Some x)
 
 -- the query stays open under the kept lemmas, and under the pool's; and no probe violates the target

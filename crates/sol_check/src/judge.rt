@@ -1,11 +1,11 @@
 // The verdict on each target: its query under the pool's lemmas, and then the probes.
 
-ghost use Rattle.std.specs.Prelude.{◌≡◌, ◌+◌, true, length, IfOk, OnOk, IsTrue, option_copied};
+ghost use Rattle.std.specs.Prelude.{◌≡◌, ◌+◌, ◌<◌, true, length, Some, slice_get, IfOk, OnOk, IfSome, IsTrue, option_copied};
 ghost use Rattle.chc_form.specs.WellMade.{well_made};
 ghost use Rattle.chc_ask.specs.declared.Asked.TheVariants as asked;
 ghost use Rattle.chc_ask.specs.Asked.{asked_of};
 ghost use Rattle.sol_eval.specs.Sized.{is_sized};
-ghost use Rattle.sol_probe.specs.FirstHit.{IsFirstHit};
+ghost use Rattle.sol_probe.specs.FirstHit.{IsFirstHit, AreFirstHits};
 ghost use Rattle.sol_report.specs.declared.Verdict.TheVariants as verdict;
 ghost use Rattle.sol_check.specs.Verdicts.{first_of_limit, limits};
 ghost use Rattle.sol_check.specs.Found.{stop_by, IsProbed, VerdictFound, VerdictsFound};
@@ -13,20 +13,17 @@ ghost use Rattle.sol_check.specs.Found.{stop_by, IsProbed, VerdictFound, Verdict
 use chc_ask::{Asked, Open, Why, ask};
 use chc_form::{Lemma, Limits, Part, System};
 use chc_houdini::RoundStop;
-use chc_nums::{List, NoMemory};
-use sol_core::Program;
-use sol_probe::first_hit;
+use chc_nums::{List, MAX_NODES, MAX_PIVOTS, MAX_TURNS, NoMemory};
+use sol_core::{Program, Script};
+use sol_probe::first_hits;
 use sol_report::{Stop, Verdict};
 use std::alloc::Global;
 
 /// How far each question goes.
 pub const LIMITS: Limits = Limits {
-    pivots: 100_000,
-    nodes: 65_536,
+    pivots: MAX_PIVOTS,
+    nodes: MAX_NODES,
 };
-
-// The turns of a probe.
-const TURNS: u32 = 1024;
 
 // The first drop that came of a limit.
 fn first_of_limit(drops: &[RoundStop]) -> Option<&RoundStop>
@@ -64,21 +61,65 @@ fn unknown(alloc: Global, drops: &[RoundStop], left: Open) -> Result<Verdict, No
     })
 }
 
+// The first probe that violates a target, by a table that has one for each target.
+fn first_in(
+    alloc: Global,
+    firsts: &[Option<Script>],
+    target: u32,
+) -> Result<Option<Script>, NoMemory>
+    requires { target < length firsts.now }
+    ensures { IfOk result (λ o. slice_get firsts.now target ≡ Some o) }
+{
+    match &firsts[target as usize] {
+        None => Ok(None),
+        Some(script) => Ok(Some(script.copy(alloc)?)),
+    }
+}
+
+// The first probe that violates a target. The table is made when the first target asks for it.
+#[tactic(auto, using(crate::proofs::Growing::probing))]
+fn first_hit(
+    alloc: Global,
+    program: &Program,
+    table: &mut Option<List<Option<Script>>>,
+    target: u32,
+) -> Result<Option<Script>, NoMemory>
+    requires sized { IsTrue (is_sized program.now) }
+    requires within { target < length program.now.sites }
+    requires before { IfSome table.old (AreFirstHits program.now) }
+    ensures first { IfOk result (λ o. IsFirstHit program.now target o) }
+    ensures after { OnOk result (IfSome table.new (AreFirstHits program.now)) }
+{
+    match table {
+        Some(firsts) => first_in(alloc, firsts.as_slice(), target),
+        None => {
+            let firsts = first_hits(alloc, program)?;
+            let first = first_in(alloc, firsts.as_slice(), target)?;
+            *table = Some(firsts);
+            Ok(first)
+        }
+    }
+}
+
 // The verdict on a target whose query stays open: the first probe that violates it, or else unknown.
 fn probed(
     alloc: Global,
     program: &Program,
+    table: &mut Option<List<Option<Script>>>,
     drops: &[RoundStop],
     target: u32,
     left: Open,
 ) -> Result<Verdict, NoMemory>
-    requires { IsTrue (is_sized program.now) }
-    ensures { IfOk result (λ v. IsProbed program.now drops.now target left v) }
+    requires sized { IsTrue (is_sized program.now) }
+    requires within { target < length program.now.sites }
+    requires before { IfSome table.old (AreFirstHits program.now) }
+    ensures probed { IfOk result (λ v. IsProbed program.now drops.now target left v) }
+    ensures after { OnOk result (IfSome table.new (AreFirstHits program.now)) }
 {
-    match first_hit(alloc, program, target)? {
+    match first_hit(alloc, program, table, target)? {
         Some(script) => Ok(Verdict::Unsafe {
             script,
-            turns: TURNS,
+            turns: MAX_TURNS,
         }),
         None => unknown(alloc, drops, left),
     }
@@ -91,15 +132,19 @@ fn verdict(
     system: &System,
     drops: &[RoundStop],
     lemmas: &[Lemma],
+    table: &mut Option<List<Option<Script>>>,
     target: u32,
 ) -> Result<Verdict, NoMemory>
     requires sized { IsTrue (is_sized program.now) }
     requires well { well_made system.now ≡ true }
-    ensures { IfOk result (λ v. VerdictFound program.now system.now drops.now lemmas.now target v) }
+    requires within { target < length program.now.sites }
+    requires before { IfSome table.old (AreFirstHits program.now) }
+    ensures found { IfOk result (λ v. VerdictFound program.now system.now drops.now lemmas.now target v) }
+    ensures after { OnOk result (IfSome table.new (AreFirstHits program.now)) }
 {
     match ask(alloc, system, Part::Query(target), None, lemmas, LIMITS)? {
         Asked::Refuted(multipliers) => Ok(Verdict::Safe(multipliers, lemmas.len() as u64)),
-        Asked::Open(left) => probed(alloc, program, drops, target, left),
+        Asked::Open(left) => probed(alloc, program, table, drops, target, left),
     }
 }
 
@@ -110,22 +155,27 @@ fn add_verdict(
     system: &System,
     drops: &[RoundStop],
     lemmas: &[Lemma],
+    table: &mut Option<List<Option<Script>>>,
     verdicts: &mut List<(u32, Verdict)>,
 ) -> Result<(), NoMemory>
     requires sized { IsTrue (is_sized program.now) }
     requires well { well_made system.now ≡ true }
+    requires within { length verdicts.old < length program.now.sites }
+    requires table { IfSome table.old (AreFirstHits program.now) }
     requires before { VerdictsFound program.now system.now drops.now lemmas.now 0 verdicts.old }
     ensures found { OnOk result (VerdictsFound program.now system.now drops.now lemmas.now 0 verdicts.new) }
     ensures count { OnOk result (length verdicts.new ≡ length verdicts.old + 1) }
+    ensures table { OnOk result (IfSome table.new (AreFirstHits program.now)) }
 {
     let Ok(target) = u32::try_from(verdicts.len()) else {
         return Err(NoMemory);
     };
-    let verdict = verdict(alloc, program, system, drops, lemmas, target)?;
+    let verdict = verdict(alloc, program, system, drops, lemmas, table, target)?;
     verdicts.push((target, verdict))
 }
 
-/// The verdicts on all targets of a program, in order, by its rules and lemmas that solve them.
+/// The verdicts on all targets of a program, in order, by its rules and lemmas that solve them. The probes are made and
+/// run once, and only where some target stays open.
 pub fn judge(
     alloc: Global,
     program: &Program,
@@ -139,8 +189,17 @@ pub fn judge(
     ensures count { IfOk result (λ vs. length vs ≡ length program.now.sites) }
 {
     let mut verdicts = List::new(alloc);
+    let mut table = None;
     for _site in program.sites.as_slice() {
-        add_verdict(alloc, program, system, drops, lemmas, &mut verdicts)?;
+        add_verdict(
+            alloc,
+            program,
+            system,
+            drops,
+            lemmas,
+            &mut table,
+            &mut verdicts,
+        )?;
     }
     Ok(verdicts)
 }

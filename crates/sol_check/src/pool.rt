@@ -3,6 +3,7 @@
 ghost use Rattle.std.specs.Prelude.{◌≡◌, ◌≤◌, [], true, length, None, IfOk};
 ghost use Rattle.std.specs.List.{list_all};
 ghost use Rattle.std.specs.Arc.{arc_value};
+ghost use Rattle.chc_nums.specs.declared.limits.TheConstants.{MAX_LEMMAS};
 ghost use Rattle.chc_form.specs.WellMade.{well_made, of_system};
 ghost use Rattle.chc_reduce.specs.Obligations.{obligations};
 ghost use Rattle.pool_state.specs.Unproved.{unproved};
@@ -25,7 +26,7 @@ fn batch(
     requires well { well_made (arc_value s.now) ≡ true }
     requires of { list_all (of_system (arc_value s.now)) lemmas ≡ true }
     requires some { 1 ≤ length lemmas }
-    requires few { length lemmas ≤ 1024 }
+    requires few { length lemmas ≤ MAX_LEMMAS }
     requires proofs { unproved (obligations (arc_value s.now) [] lemmas) proofs ≡ None }
     ensures { IfOk result (λ b. b ≡ record { system = arc_value s.now; base = []; lemmas = lemmas }) }
 {
@@ -67,7 +68,7 @@ pub fn first_pool(
 ) -> Result<Pool, NoMemory>
     requires well { well_made (arc_value s.now) ≡ true }
     requires of { list_all (of_system (arc_value s.now)) lemmas ≡ true }
-    requires few { length lemmas ≤ 1024 }
+    requires few { length lemmas ≤ MAX_LEMMAS }
     requires proofs { unproved (obligations (arc_value s.now) [] lemmas) proofs ≡ None }
     ensures { IfOk result (λ p. p ≡ first_content (arc_value s.now) lemmas) }
 {

@@ -2,6 +2,7 @@
 //! outsiders do with it. Nothing here computes; the meaning of these types stands in `sol_meaning`.
 #![tactic(auto)]
 
+mod copies;
 mod options;
 mod program;
 mod script;
@@ -9,7 +10,7 @@ mod state;
 
 pub use options::{Kinds, Options};
 pub use program::{
-    Build, BuildArg, Cmp, Expr, Fun, Kind, MapTy, Marks, OutFun, Place, Program, Site, Stmt,
+    Build, BuildArg, Cmp, Expr, Fun, Kind, MapTy, OutFun, PanicSites, Place, Program, Site, Stmt,
 };
 pub use script::{Answer, Call, Reply, Script};
 pub use state::{MapVal, State};

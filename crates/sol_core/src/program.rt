@@ -25,7 +25,7 @@ pub struct Site {
 /// The targets of an arithmetic operation, as places in `sites`: where the result lies below or above its type, and
 /// where the divisor is 0.
 #[derive(Clone, Copy, Debug, PartialEq, Eq)]
-pub struct Marks {
+pub struct PanicSites {
     pub under: Option<u32>,
     pub over: Option<u32>,
     pub zero: Option<u32>,
@@ -70,7 +70,7 @@ pub enum Expr {
     ElemAt(u32, Boxed<Expr>, u32),
     Len(u32),
     Sender,
-    Arith(Op, Ty, bool, Boxed<Expr>, Boxed<Expr>, Marks),
+    Arith(Op, Ty, bool, Boxed<Expr>, Boxed<Expr>, PanicSites),
     Compare(Cmp, Boxed<Expr>, Boxed<Expr>),
     Not(Boxed<Expr>),
     Both(Boxed<Expr>, Boxed<Expr>),
@@ -94,7 +94,7 @@ pub enum Place {
 #[derive(Drop)]
 pub enum Stmt {
     Set(Place, Expr),
-    Step(Place, Op, Ty, bool, Expr, Marks),
+    Step(Place, Op, Ty, bool, Expr, PanicSites),
     Push(u32, Expr),
     Pop(u32, u32),
     Clear(u32),

@@ -9,7 +9,7 @@ use Rattle.chc_nums.specs.declared.Ty.TheVariants as ty
 use Rattle.chc_nums.specs.declared.Op.{Op}
 use Rattle.chc_nums.specs.Types.{IsType}
 use Rattle.sol_core.specs.declared.Cmp.{Cmp}
-use Rattle.sol_core.specs.declared.Marks.{Marks}
+use Rattle.sol_core.specs.declared.PanicSites.{PanicSites}
 use Rattle.sol_core.specs.declared.Place.{Place}
 use Rattle.sol_core.specs.declared.Expr.{Expr, Num, Scalar, Arith, Compare, Cast}
 use Rattle.sol_core.specs.declared.Expr.TheVariants.{rolls-Num, rolls-Scalar, rolls-Arith, rolls-Compare, rolls-Cast}
@@ -37,7 +37,7 @@ pub sized-Scalar : (i : ℕ) → expr_sized (Scalar i) ≡ true
 unfolding expr_sized
 sized-Scalar i = ap (λ (z : Expr). fold-Expr Bool expr_layer z) (sym (rolls-Scalar i)) ∙ fold-roll-Expr Bool expr_layer (Expr-F.Scalar i)
 
-pub sized-Arith : (o : Op) (t : Ty) (c : Bool) (a b : Expr) (m : Marks) → expr_sized (Arith o t c a b m) ≡ (type_sized t && (expr_sized a && expr_sized b))
+pub sized-Arith : (o : Op) (t : Ty) (c : Bool) (a b : Expr) (m : PanicSites) → expr_sized (Arith o t c a b m) ≡ (type_sized t && (expr_sized a && expr_sized b))
 unfolding expr_sized
 sized-Arith o t c a b m = ap (λ (z : Expr). fold-Expr Bool expr_layer z) (sym (rolls-Arith o t c a b m)) ∙ fold-roll-Expr Bool expr_layer (Expr-F.Arith o t c a b m)
 
@@ -62,13 +62,13 @@ unfolding stmt_sized
 sized-Assert e site = ap (λ (z : Stmt). fold-Stmt Bool stmt_layer z) (sym (rolls-Assert e site)) ∙ fold-roll-Stmt Bool stmt_layer (Stmt-F.Assert e site)
 
 -- the parts of a form that is sized
-pub arith-type : (o : Op) (t : Ty) (c : Bool) (a b : Expr) (m : Marks) → expr_sized (Arith o t c a b m) ≡ true → type_sized t ≡ true
+pub arith-type : (o : Op) (t : Ty) (c : Bool) (a b : Expr) (m : PanicSites) → expr_sized (Arith o t c a b m) ≡ true → type_sized t ≡ true
 arith-type o t c a b m h = (and_parts (type_sized t) (expr_sized a && expr_sized b) (sym (sized-Arith o t c a b m) ∙ h)).0
 
-pub arith-first : (o : Op) (t : Ty) (c : Bool) (a b : Expr) (m : Marks) → expr_sized (Arith o t c a b m) ≡ true → expr_sized a ≡ true
+pub arith-first : (o : Op) (t : Ty) (c : Bool) (a b : Expr) (m : PanicSites) → expr_sized (Arith o t c a b m) ≡ true → expr_sized a ≡ true
 arith-first o t c a b m h = (and_parts (expr_sized a) (expr_sized b) (and_parts (type_sized t) (expr_sized a && expr_sized b) (sym (sized-Arith o t c a b m) ∙ h)).1).0
 
-pub arith-second : (o : Op) (t : Ty) (c : Bool) (a b : Expr) (m : Marks) → expr_sized (Arith o t c a b m) ≡ true → expr_sized b ≡ true
+pub arith-second : (o : Op) (t : Ty) (c : Bool) (a b : Expr) (m : PanicSites) → expr_sized (Arith o t c a b m) ≡ true → expr_sized b ≡ true
 arith-second o t c a b m h = (and_parts (expr_sized a) (expr_sized b) (and_parts (type_sized t) (expr_sized a && expr_sized b) (sym (sized-Arith o t c a b m) ∙ h)).1).1
 
 pub compare-first : (c : Cmp) (a b : Expr) → expr_sized (Compare c a b) ≡ true → expr_sized a ≡ true

@@ -9,8 +9,6 @@ mod numbers;
 mod outcome;
 mod runs;
 mod statements;
-#[cfg(test)]
-mod tests;
 mod values;
 
 pub use outcome::Run;

@@ -9,7 +9,7 @@ ghost use Rattle.sol_eval.specs.Sized.{type_sized, expr_sized};
 
 use crate::numbers::{compared, judged, number_at, truth, wrapped};
 use chc_nums::{NoMemory, Num, Op, Ty};
-use sol_core::{Cmp, Expr, Marks};
+use sol_core::{Cmp, Expr, PanicSites};
 use sol_meaning::{Got, World};
 
 /// A panic adds its target, where it has one.
@@ -26,15 +26,15 @@ pub fn panic(site: Option<u32>, w: &mut World) -> Result<Got, NoMemory>
     }
 }
 
-fn arithmetic(n: Num, marks: Marks, w: &mut World) -> Result<Got, NoMemory>
-    ensures ran { Ran (arithmetic n marks w.old) result w.new }
+fn arithmetic(n: Num, panics: PanicSites, w: &mut World) -> Result<Got, NoMemory>
+    ensures ran { Ran (arithmetic n panics w.old) result w.new }
     ensures kept { w.new.state ≡ w.old.state }
 {
     match n {
         Num::Value(z) => Ok(Got::Value(z)),
-        Num::Under => panic(marks.under, w),
-        Num::Over => panic(marks.over, w),
-        Num::ByZero => panic(marks.zero, w),
+        Num::Under => panic(panics.under, w),
+        Num::Over => panic(panics.over, w),
+        Num::ByZero => panic(panics.zero, w),
     }
 }
 
@@ -57,12 +57,12 @@ pub fn eval(e: &Expr, w: &mut World) -> Result<Got, NoMemory>
     match e {
         Expr::Num(n, _) => Ok(Got::Value(*n)),
         Expr::Scalar(i) => Ok(Got::Value(number_at(w.state.scalars.as_slice(), *i))),
-        Expr::Arith(op, ty, checked, a, b, marks) => {
+        Expr::Arith(op, ty, checked, a, b, panics) => {
             if !*checked {
                 return Ok(Got::Reverted);
             }
             match eval(a.get(), w)? {
-                Got::Value(x) => arith_to(b.get(), *op, *ty, x, *marks, w),
+                Got::Value(x) => arith_to(b.get(), *op, *ty, x, *panics, w),
                 Got::Reverted => Ok(Got::Reverted),
                 Got::Cut => Ok(Got::Cut),
             }
@@ -91,14 +91,21 @@ pub fn eval(e: &Expr, w: &mut World) -> Result<Got, NoMemory>
 }
 
 #[cycle(eval)]
-fn arith_to(b: &Expr, op: Op, ty: Ty, x: i128, marks: Marks, w: &mut World) -> Result<Got, NoMemory>
+fn arith_to(
+    b: &Expr,
+    op: Op,
+    ty: Ty,
+    x: i128,
+    panics: PanicSites,
+    w: &mut World,
+) -> Result<Got, NoMemory>
     requires operand { IsTrue (expr_sized b.now) }
     requires size { IsTrue (type_sized ty) }
-    ensures ran { Ran (then_value (eval b.now w.old) (λ y u. arithmetic (judged op ty x y) marks u)) result w.new }
+    ensures ran { Ran (then_value (eval b.now w.old) (λ y u. arithmetic (judged op ty x y) panics u)) result w.new }
     ensures kept { w.new.state ≡ w.old.state }
 {
     match eval(b, w)? {
-        Got::Value(y) => arithmetic(judged(op, ty, x, y), marks, w),
+        Got::Value(y) => arithmetic(judged(op, ty, x, y), panics, w),
         Got::Reverted => Ok(Got::Reverted),
         Got::Cut => Ok(Got::Cut),
     }

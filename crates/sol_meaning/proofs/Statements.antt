@@ -2,7 +2,7 @@
 use Rattle.std.proofs.Common.{◌≡◌, ◌∙◌, sym, ap, ℕ, List, Bool, Option}
 use Rattle.chc_nums.specs.declared.Ty.{Ty}
 use Rattle.chc_nums.specs.declared.Op.{Op}
-use Rattle.sol_core.specs.declared.Marks.{Marks}
+use Rattle.sol_core.specs.declared.PanicSites.{PanicSites}
 use Rattle.sol_meaning.specs.declared.world.End.TheVariants as done
 use Rattle.sol_core.specs.declared.Expr.{Expr}
 use Rattle.sol_core.specs.declared.Place.{Place}
@@ -27,7 +27,7 @@ unfolding exec exec_step
 exec-Assert e site w = ap (λ (z : Stmt). fold-Stmt Done exec_step z w) (sym (rolls-Assert e site)) ∙ ap (λ (f : Done). f w) (fold-roll-Stmt Done exec_step (Stmt-F.Assert e site))
 
 -- the forms that have no meaning yet
-pub exec-Step : (p : Place) (o : Op) (t : Ty) (c : Bool) (e : Expr) (m : Marks) (w : World) → exec (Step p o t c e m) w ≡ (done.Reverted, w)
+pub exec-Step : (p : Place) (o : Op) (t : Ty) (c : Bool) (e : Expr) (m : PanicSites) (w : World) → exec (Step p o t c e m) w ≡ (done.Reverted, w)
 unfolding exec exec_step
 exec-Step p o t c e m w = ap (λ (z : Stmt). fold-Stmt Done exec_step z w) (sym (rolls-Step p o t c e m)) ∙ ap (λ (f : Done). f w) (fold-roll-Stmt Done exec_step (Stmt-F.Step p o t c e m))
 

@@ -5,7 +5,7 @@ use Rattle.chc_nums.specs.declared.Ty.{Ty}
 use Rattle.chc_nums.specs.declared.Op.{Op}
 use Rattle.chc_nums.specs.Types.{judged}
 use Rattle.sol_core.specs.declared.Cmp.{Cmp}
-use Rattle.sol_core.specs.declared.Marks.{Marks}
+use Rattle.sol_core.specs.declared.PanicSites.{PanicSites}
 use Rattle.sol_core.specs.declared.Expr.{Expr, Num, Scalar, Arith, Compare, Cast, Local, MapAt, ElemAt, Len, Sender, Not, Both, Either, Pick, Call}
 use Rattle.sol_core.specs.declared.Expr.TheVariants.{rolls-Num, rolls-Scalar, rolls-Arith, rolls-Compare, rolls-Cast, rolls-Local, rolls-MapAt, rolls-ElemAt, rolls-Len, rolls-Sender, rolls-Not, rolls-Both, rolls-Either, rolls-Pick, rolls-Call}
 use Rattle.sol_core.specs.declared.Expr.TheOpen.{Expr-F}
@@ -23,7 +23,7 @@ unfolding eval value_step
 eval-Scalar i w = ap (λ (z : Expr). fold-Expr Valued value_step z w) (sym (rolls-Scalar i)) ∙ ap (λ (f : Valued). f w) (fold-roll-Expr Valued value_step (Expr-F.Scalar i))
 
 -- a checked operation
-pub eval-Arith : (o : Op) (t : Ty) (a b : Expr) (m : Marks) (w : World) → eval (Arith o t true a b m) w ≡ then_value (eval a w) (λ x v. then_value (eval b v) (λ y u. arithmetic (judged o t x y) m u))
+pub eval-Arith : (o : Op) (t : Ty) (a b : Expr) (m : PanicSites) (w : World) → eval (Arith o t true a b m) w ≡ then_value (eval a w) (λ x v. then_value (eval b v) (λ y u. arithmetic (judged o t x y) m u))
 unfolding eval value_step
 eval-Arith o t a b m w = ap (λ (z : Expr). fold-Expr Valued value_step z w) (sym (rolls-Arith o t true a b m)) ∙ ap (λ (f : Valued). f w) (fold-roll-Expr Valued value_step (Expr-F.Arith o t true a b m))
 
@@ -36,7 +36,7 @@ unfolding eval value_step
 eval-Cast s t a w = ap (λ (z : Expr). fold-Expr Valued value_step z w) (sym (rolls-Cast s t a)) ∙ ap (λ (f : Valued). f w) (fold-roll-Expr Valued value_step (Expr-F.Cast s t a))
 
 -- the forms that have no meaning yet
-pub eval-Wrapping : (o : Op) (t : Ty) (a b : Expr) (m : Marks) (w : World) → eval (Arith o t false a b m) w ≡ (got.Reverted, w)
+pub eval-Wrapping : (o : Op) (t : Ty) (a b : Expr) (m : PanicSites) (w : World) → eval (Arith o t false a b m) w ≡ (got.Reverted, w)
 unfolding eval value_step
 eval-Wrapping o t a b m w = ap (λ (z : Expr). fold-Expr Valued value_step z w) (sym (rolls-Arith o t false a b m)) ∙ ap (λ (f : Valued). f w) (fold-roll-Expr Valued value_step (Expr-F.Arith o t false a b m))
 

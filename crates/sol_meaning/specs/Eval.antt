@@ -11,7 +11,7 @@ use Rattle.chc_nums.specs.declared.Num.TheVariants as num
 use Rattle.chc_nums.specs.Types.{judged}
 use Rattle.sol_core.specs.declared.Cmp.{Cmp}
 use Rattle.sol_core.specs.declared.Cmp.TheVariants as cmp
-use Rattle.sol_core.specs.declared.Marks.{Marks}
+use Rattle.sol_core.specs.declared.PanicSites.{PanicSites}
 use Rattle.sol_core.specs.declared.Expr.{Expr}
 use Rattle.sol_core.specs.declared.Expr.TheOpen.{Expr-F}
 use Rattle.sol_core.specs.declared.Expr.TheFolds.{fold-Expr}
@@ -60,7 +60,7 @@ wrapped (ty.Int s) z = pos (modulo (z +ℤ pos (2 ^ (8 * s - 1))) (2 ^ (8 * s)))
 wrapped ty.Addr z = pos (modulo z (2 ^ 96))
 
 -- what a checked operation gives: its value, or the panic of its cause
-abbrev pub arithmetic : Num → Marks → Valued
+abbrev pub arithmetic : Num → PanicSites → Valued
 arithmetic (num.Value z) m w = (got.Value z, w)
 arithmetic num.Under m w = panic m.under w
 arithmetic num.Over m w = panic m.over w

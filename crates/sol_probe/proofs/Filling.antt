@@ -1,12 +1,8 @@
 -- Lists that are filled up to 4,096 entries.
-use Rattle.std.proofs.Common.{◌≡◌, ◌∙◌, sym, refl, ap, ℕ, zero, suc, ◌+◌, ◌-◌, ◌<◌, ◌≤◌, List, [], ◌∷◌, ◌++◌, length, take, map, arith, append_assoc, length-append}
+use Rattle.std.proofs.Common.{◌≡◌, ◌∙◌, sym, refl, ap, ℕ, zero, suc, ◌+◌, ◌-◌, ◌<◌, ◌≤◌, List, [], ◌∷◌, ◌++◌, length, take, map, arith, append-nil, append_assoc, length-append}
 use Rattle.std.specs.List.{flat_map}
 use Rattle.std.proofs.lemmas.List.{take-map, length-take}
 use Rattle.sol_probe.specs.Filled.{filled}
-
-append-none : {A : Type 0} (xs : List A) → xs ++ [] ≡ xs
-append-none [] = refl
-append-none {A = A} (x ∷ xs) = ap (λ (ys : List A). x ∷ ys) (append-none xs)
 
 take-none : {A : Type 0} (n : ℕ) → take {A = A} n [] ≡ []
 take-none zero = refl
@@ -37,7 +33,7 @@ take-joined {A = A} n xs ys =
 
 pub filled-none : {A : Type 0} (all : List A) → filled all [] ≡ all
 unfolding filled
-filled-none {A = A} all = ap (λ (zs : List A). all ++ zs) (take-none (4096 - length all)) ∙ append-none all
+filled-none {A = A} all = ap (λ (zs : List A). all ++ zs) (take-none (4096 - length all)) ∙ append-nil all
 
 pub filled-room : {A : Type 0} (all : List A) (x : A) (xs : List A) → length all < 4096 → filled all (x ∷ xs) ≡ filled (all ++ x ∷ []) xs
 unfolding filled
@@ -48,7 +44,7 @@ filled-room all x xs h =
 
 pub filled-full : {A : Type 0} (all xs : List A) → 4096 ≤ length all → filled all xs ≡ all
 unfolding filled
-filled-full all xs h = let none : 4096 - length all ≡ 0 = omega arith in rw none (append-none all)
+filled-full all xs h = let none : 4096 - length all ≡ 0 = omega arith in rw none (append-nil all)
 
 pub filled-more : {A : Type 0} (all xs ys : List A) → filled (filled all xs) ys ≡ filled all (xs ++ ys)
 unfolding filled

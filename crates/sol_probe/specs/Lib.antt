@@ -1,3 +1,4 @@
 pub mod Filled
 pub mod FirstHit
+pub mod Noted
 pub mod Probes

@@ -4,6 +4,7 @@ use Rattle.std.specs.Prelude.{ℕ, ◌+◌, List, [], ◌∷◌, ◌++◌, map, 
 use Rattle.std.specs.List.{flat_map}
 use lib.IntN.{ℤ}
 use Rattle.std.specs.Ordering.{int_eq}
+use Rattle.chc_nums.specs.declared.limits.TheConstants.{MAX_PROBES}
 use Rattle.chc_nums.specs.declared.Ty.{Ty}
 use Rattle.chc_nums.specs.Types.{least, greatest}
 use Rattle.sol_core.specs.declared.Fun.{Fun}
@@ -65,4 +66,4 @@ abbrev pub with_calls : List PlainCall → Script → List Script
 with_calls cs s = map (with_call s) cs
 
 unfoldable pub probes : Program → List Script
-probes p = take 4096 (deployments p ++ flat_map (with_calls (calls p)) (deployments p))
+probes p = take MAX_PROBES (deployments p ++ flat_map (with_calls (calls p)) (deployments p))

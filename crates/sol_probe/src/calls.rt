@@ -1,11 +1,12 @@
 // Calls without replies.
 
 ghost use Rattle.std.specs.Prelude.{◌≡◌, take, IfOk, OnOk, Some, slice_get};
+ghost use Rattle.chc_nums.specs.declared.limits.TheConstants.{MAX_PROBES};
 ghost use Rattle.sol_probe.specs.Filled.{filled};
 ghost use Rattle.sol_probe.specs.Probes.{called_by, calls_of, calls};
 
-use crate::choices::{LIMIT, choices};
-use chc_nums::{List, NoMemory, Ty};
+use crate::choices::choices;
+use chc_nums::{List, MAX_PROBES, NoMemory, Ty};
 use sol_core::{Fun, Program};
 use std::alloc::Global;
 
@@ -20,7 +21,7 @@ pub struct PlainCall {
 /// The first calls through a program's doors.
 #[tactic(auto, using(std::proofs::lemmas::Grind::common_steps, crate::proofs::Filling::filling, crate::proofs::Choosing::calling))]
 pub fn calls(alloc: Global, p: &Program) -> Result<List<PlainCall>, NoMemory>
-    ensures { IfOk result (λ all. all ≡ take 4096 (calls p.now)) }
+    ensures { IfOk result (λ all. all ≡ take MAX_PROBES (calls p.now)) }
 {
     let mut all = List::new(alloc);
     let mut door = 0u32;
@@ -61,7 +62,7 @@ fn add_calls_of(
 ) -> Result<(), NoMemory>
     ensures { OnOk result (all.new ≡ filled all.old (calls_of door (Some fun.now))) }
 {
-    if all.len() >= LIMIT {
+    if all.len() >= MAX_PROBES {
         return Ok(());
     }
     let args = choices(alloc, parameters(fun))?;
@@ -91,7 +92,7 @@ fn add_calls(
     ensures { OnOk result (all.new ≡ filled all.old (called_by door choices.now sender.now)) }
 {
     for args in choices {
-        if all.len() >= LIMIT {
+        if all.len() >= MAX_PROBES {
             return Ok(());
         }
         let args = args.copy(alloc)?;

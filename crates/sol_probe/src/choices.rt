@@ -2,20 +2,18 @@
 
 ghost use Rattle.std.specs.Prelude.{◌≡◌, ◌∷◌, [], take, IfOk, OnOk};
 ghost use Rattle.std.specs.List.{flat_map};
+ghost use Rattle.chc_nums.specs.declared.limits.TheConstants.{MAX_PROBES};
 ghost use Rattle.sol_probe.specs.Filled.{filled};
 ghost use Rattle.sol_probe.specs.Probes.{fronted, choices};
 
 use crate::corners::corners;
-use chc_nums::{List, NoMemory, Ty};
+use chc_nums::{List, MAX_PROBES, NoMemory, Ty};
 use std::alloc::Global;
-
-/// The most entries that a list of choices, calls or scripts gets.
-pub const LIMIT: usize = 4096;
 
 /// The first choices of arguments of types, the last argument the fastest.
 #[tactic(auto, using(std::proofs::lemmas::Grind::common_steps, crate::proofs::Choosing::choosing))]
 pub fn choices(alloc: Global, types: &[Ty]) -> Result<List<List<i128>>, NoMemory>
-    ensures { IfOk result (λ all. all ≡ take 4096 (choices types.now)) }
+    ensures { IfOk result (λ all. all ≡ take MAX_PROBES (choices types.now)) }
 {
     match types {
         [] => no_arguments(alloc),
@@ -37,7 +35,7 @@ fn no_arguments(alloc: Global) -> Result<List<List<i128>>, NoMemory>
 
 #[tactic(auto, using(std::proofs::lemmas::Grind::common_steps, crate::proofs::Filling::filling))]
 fn fronts(alloc: Global, values: &[i128], rest: &[List<i128>]) -> Result<List<List<i128>>, NoMemory>
-    ensures { IfOk result (λ all. all ≡ take 4096 (flat_map (fronted rest.now) values.now)) }
+    ensures { IfOk result (λ all. all ≡ take MAX_PROBES (flat_map (fronted rest.now) values.now)) }
 {
     let mut all = List::new(alloc);
     for value in values {
@@ -56,7 +54,7 @@ fn add_fronted(
     ensures { OnOk result (all.new ≡ filled all.old (fronted rest.now value.now)) }
 {
     for values in rest {
-        if all.len() >= LIMIT {
+        if all.len() >= MAX_PROBES {
             return Ok(());
         }
         all.push(in_front(alloc, *value, values.as_slice())?)?;

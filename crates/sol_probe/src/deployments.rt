@@ -1,18 +1,19 @@
 // Deployments alone.
 
 ghost use Rattle.std.specs.Prelude.{◌≡◌, take, IfOk, OnOk};
+ghost use Rattle.chc_nums.specs.declared.limits.TheConstants.{MAX_PROBES};
 ghost use Rattle.sol_probe.specs.Filled.{filled};
 ghost use Rattle.sol_probe.specs.Probes.{deployed_by, deployments};
 
-use crate::choices::{LIMIT, choices};
-use chc_nums::{List, NoMemory};
+use crate::choices::choices;
+use chc_nums::{List, MAX_PROBES, NoMemory};
 use sol_core::{Program, Script};
 use std::alloc::Global;
 
 /// The first deployments of a program.
 #[tactic(auto, using(std::proofs::lemmas::Grind::common_steps, crate::proofs::Choosing::deployments_made))]
 pub fn deployments(alloc: Global, p: &Program) -> Result<List<Script>, NoMemory>
-    ensures { IfOk result (λ all. all ≡ take 4096 (deployments p.now)) }
+    ensures { IfOk result (λ all. all ≡ take MAX_PROBES (deployments p.now)) }
 {
     let args = choices(alloc, p.params.as_slice())?;
     let mut all = List::new(alloc);
@@ -31,7 +32,7 @@ fn add_deployments(
     ensures { OnOk result (all.new ≡ filled all.old (deployed_by choices.now sender.now)) }
 {
     for args in choices {
-        if all.len() >= LIMIT {
+        if all.len() >= MAX_PROBES {
             return Ok(());
         }
         let args = args.copy(alloc)?;

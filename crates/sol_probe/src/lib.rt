@@ -1,5 +1,5 @@
 //! Probes: scripts that are tried on every program, with corner values as arguments, a deployment alone and a deployment
-//! with one call after it. `first_hit` gives the first of them that violates a target, or says that none does;
+//! with one call after it. `first_hits` gives for each target the first of them that violates it, or says that none does;
 //! `probe_law` says that each of them fits its program.
 #![tactic(auto)]
 
@@ -10,8 +10,6 @@ mod deployments;
 mod law;
 mod probes;
 mod search;
-#[cfg(test)]
-mod tests;
 
 pub use law::probe_law;
-pub use search::first_hit;
+pub use search::first_hits;

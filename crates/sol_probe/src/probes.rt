@@ -2,13 +2,13 @@
 
 ghost use Rattle.std.specs.Prelude.{◌≡◌, ◌++◌, take, IfOk, OnOk};
 ghost use Rattle.std.specs.List.{flat_map};
+ghost use Rattle.chc_nums.specs.declared.limits.TheConstants.{MAX_PROBES};
 ghost use Rattle.sol_probe.specs.Filled.{filled};
 ghost use Rattle.sol_probe.specs.Probes.{with_call, with_calls, probes};
 
 use crate::calls::{PlainCall, calls};
-use crate::choices::LIMIT;
 use crate::deployments::deployments;
-use chc_nums::{List, NoMemory};
+use chc_nums::{List, MAX_PROBES, NoMemory};
 use sol_core::{Call, Program, Script};
 use sqlite_items::Items;
 use std::alloc::Global;
@@ -25,18 +25,18 @@ pub fn probes(alloc: Global, p: &Program) -> Result<List<Script>, NoMemory>
 }
 
 fn joined(first: List<Script>, second: List<Script>) -> Result<List<Script>, NoMemory>
-    ensures { IfOk result (λ all. all ≡ take 4096 (first ++ second)) }
+    ensures { IfOk result (λ all. all ≡ take MAX_PROBES (first ++ second)) }
 {
     let mut all = first.into_vec();
     let mut more = second.into_vec();
     all.append(&mut more)?;
-    all.truncate(LIMIT);
+    all.truncate(MAX_PROBES);
     Ok(List::from_vec(all))
 }
 
 #[tactic(auto, using(std::proofs::lemmas::Grind::common_steps, crate::proofs::Filling::filling))]
 fn called(alloc: Global, scripts: &[Script], calls: &[PlainCall]) -> Result<List<Script>, NoMemory>
-    ensures { IfOk result (λ all. all ≡ take 4096 (flat_map (with_calls calls.now) scripts.now)) }
+    ensures { IfOk result (λ all. all ≡ take MAX_PROBES (flat_map (with_calls calls.now) scripts.now)) }
 {
     let mut all = List::new(alloc);
     for script in scripts {
@@ -55,7 +55,7 @@ fn add_called(
     ensures { OnOk result (all.new ≡ filled all.old (with_calls calls.now script.now)) }
 {
     for call in calls {
-        if all.len() >= LIMIT {
+        if all.len() >= MAX_PROBES {
             return Ok(());
         }
         all.push(with_call(alloc, script, call)?)?;

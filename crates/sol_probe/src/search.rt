@@ -1,59 +1,94 @@
-// The first probe that violates a target.
+// The first probe that violates each target.
 
-ghost use Rattle.std.specs.Prelude.{◌≡◌, ◌==◌, IsTrue, IfOk};
-ghost use Rattle.std.specs.List.{find, list_any};
+ghost use Rattle.std.specs.Prelude.{◌≡◌, ◌++◌, ◌∷◌, [], List, replicate, None, IsTrue, IfOk, OnOk};
+ghost use Rattle.sol_core.specs.declared.Script.{Script};
 ghost use Rattle.sol_eval.specs.Sized.{is_sized};
-ghost use Rattle.sol_probe.specs.FirstHit.{IsFirstHit, is_hit};
-ghost use Rattle.sol_probe.specs.Probes.{probes};
+ghost use Rattle.sol_probe.specs.FirstHit.{AreFirstHits};
+ghost use Rattle.sol_probe.specs.Noted.{noted, noted_at, AreFirstOf};
 
 use crate::probes::probes;
-use chc_nums::{List, NoMemory};
+use chc_nums::{List, MAX_TURNS, NoMemory};
 use sol_core::{Program, Script};
 use sol_eval::run;
 use std::alloc::Global;
 
-/// How many turns a probe has.
-const TURNS: u32 = 1024;
-
-/// The first probe of a program that violates a target within 1,024 turns, or none where none does.
-pub fn first_hit(alloc: Global, p: &Program, site: u32) -> Result<Option<Script>, NoMemory>
+/// For each target of a program, in order, the first probe that violates it within `MAX_TURNS` turns, or none where none
+/// does. Each probe is made once and run once.
+pub fn first_hits(alloc: Global, p: &Program) -> Result<List<Option<Script>>, NoMemory>
     requires { IsTrue (is_sized p.now) }
-    ensures { IfOk result (λ o. IsFirstHit p.now site o) }
+    ensures { IfOk result (λ firsts. AreFirstHits p.now firsts) }
 {
     let all = probes(alloc, p)?;
-    first_of(alloc, p, site, all)
+    first_of_all(alloc, p, all.as_slice())
 }
 
-// The scripts are turned round, so that each can be taken off the end.
-fn first_of(
+// For each target the first of these scripts that violates it.
+fn first_of_all(
     alloc: Global,
     p: &Program,
-    site: u32,
-    scripts: List<Script>,
-) -> Result<Option<Script>, NoMemory>
+    scripts: &[Script],
+) -> Result<List<Option<Script>>, NoMemory>
     requires { IsTrue (is_sized p.now) }
-    ensures { IfOk result (λ o. o ≡ find (is_hit p.now site) scripts) }
+    ensures { IfOk result (λ firsts. AreFirstOf p.now scripts.now firsts) }
 {
-    let mut left = scripts.into_vec();
-    left.reverse();
-    while let Some(script) = left.pop() {
-        if hits(alloc, p, site, &script)? {
-            return Ok(Some(script));
-        }
+    let mut firsts = nothing(alloc, p.sites.len())?;
+    for script in scripts {
+        note_run(alloc, p, script, &mut firsts)?;
     }
-    Ok(None)
+    Ok(firsts)
 }
 
-fn hits(alloc: Global, p: &Program, site: u32, s: &Script) -> Result<bool, NoMemory>
+// So many targets, none of which is violated yet.
+fn nothing(alloc: Global, count: usize) -> Result<List<Option<Script>>, NoMemory>
+    ensures { IfOk result (λ firsts. firsts ≡ replicate count None) }
+{
+    let mut firsts = List::new(alloc);
+    for _i in 0..count {
+        firsts.push(None)?;
+    }
+    Ok(firsts)
+}
+
+// A script is run, and noted at the targets that it is the first to violate.
+fn note_run(
+    alloc: Global,
+    p: &Program,
+    script: &Script,
+    firsts: &mut List<Option<Script>>,
+) -> Result<(), NoMemory>
     requires { IsTrue (is_sized p.now) }
-    ensures { IfOk result (λ b. b ≡ is_hit p.now site s.now) }
+    ensures { OnOk result ((before : List Script) → AreFirstOf p.now before firsts.old → AreFirstOf p.now (before ++ script.now ∷ []) firsts.new) }
 {
-    let run = run(alloc, p, s, TURNS)?;
-    Ok(holds(run.hits.as_slice(), site))
+    let run = run(alloc, p, script, MAX_TURNS)?;
+    note(alloc, run.hits.as_slice(), script, firsts)
 }
 
-fn holds(sites: &[u32], site: u32) -> bool
-    ensures { result ≡ list_any (λ t. site == t) sites.now }
+// A script is noted at those of these targets that have none.
+fn note(
+    alloc: Global,
+    hits: &[u32],
+    script: &Script,
+    firsts: &mut List<Option<Script>>,
+) -> Result<(), NoMemory>
+    ensures { OnOk result (firsts.new ≡ noted script.now firsts.old hits.now) }
 {
-    sites.iter().any(|t| site == *t)
+    for site in hits {
+        note_at(alloc, *site, script, firsts)?;
+    }
+    Ok(())
+}
+
+fn note_at(
+    alloc: Global,
+    site: u32,
+    script: &Script,
+    firsts: &mut List<Option<Script>>,
+) -> Result<(), NoMemory>
+    ensures { OnOk result (firsts.new ≡ noted_at script.now firsts.old site) }
+{
+    let at = site as usize;
+    if at < firsts.len() && firsts.as_slice()[at].is_none() {
+        firsts.set(at, Some(script.copy(alloc)?));
+    }
+    Ok(())
 }

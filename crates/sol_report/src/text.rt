@@ -6,6 +6,7 @@ ghost use Rattle.sol_report.specs.Texts.{kind_word, why_word, stop_word, verdict
 use crate::report::{Report, Stop, Verdict};
 use chc_ask::{Open, Why};
 use chc_nums::{List, Name, NoMemory};
+use itoa::Buffer;
 use sol_core::{Kind, Program, Site};
 use std::alloc::Global;
 
@@ -67,8 +68,10 @@ fn verdict_words(alloc: Global, verdict: &Verdict) -> Result<String, NoMemory>
 fn site_line(alloc: Global, site: &Site, verdict: &Verdict) -> Result<Name, NoMemory>
     ensures { IfOk result (λ t. t ≡ site_line site.now verdict.now) }
 {
-    let line = site.line;
-    let col = site.col;
+    let mut line = Buffer::new();
+    let mut col = Buffer::new();
+    let line = line.format(site.line);
+    let col = col.format(site.col);
     let kind = kind_word(site.kind);
     let words = verdict_words(alloc, verdict)?;
     let words = words.as_str();
@@ -189,16 +192,20 @@ fn unknown_count(verdicts: &[(u32, Verdict)]) -> usize
 fn count_words(alloc: Global, verdicts: &[(u32, Verdict)]) -> Result<String, NoMemory>
     ensures { IfOk result (λ t. string_bytes t ≡ count_words verdicts.now) }
 {
-    let safe = safe_count(verdicts);
-    let violated = unsafe_count(verdicts);
-    let unknown = unknown_count(verdicts);
+    let mut safe = Buffer::new();
+    let mut violated = Buffer::new();
+    let mut unknown = Buffer::new();
+    let safe = safe.format(safe_count(verdicts));
+    let violated = violated.format(unsafe_count(verdicts));
+    let unknown = unknown.format(unknown_count(verdicts));
     Ok(format!(in alloc; "safe {safe} unsafe {violated} unknown {unknown}")?)
 }
 
 fn last_line(alloc: Global, verdicts: &[(u32, Verdict)]) -> Result<Name, NoMemory>
     ensures { IfOk result (λ t. t ≡ last_line verdicts.now) }
 {
-    let targets = verdicts.len();
+    let mut targets = Buffer::new();
+    let targets = targets.format(verdicts.len());
     let counts = count_words(alloc, verdicts)?;
     let counts = counts.as_str();
     Ok(Name::from_string(format!(in alloc; "targets {targets} {counts}\n")?))

@@ -2,8 +2,6 @@
 //! calls meet. `lines` gives the lines as `script_lines` of `specs/ScriptText.antt` gives them.
 #![tactic(auto)]
 
-#[cfg(test)]
-mod tests;
 mod text;
 mod words;
 

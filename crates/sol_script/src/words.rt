@@ -1,11 +1,12 @@
 // The words of a line.
 
-ghost use Rattle.std.specs.Prelude.{◌≡◌, ◌++◌, IfOk, codes, string_bytes};
+ghost use Rattle.std.specs.Prelude.{◌≡◌, ◌++◌, IfOk, OnOk, codes, string_bytes};
 ghost use Rattle.std.specs.Fmt.{signed_decimal};
 ghost use Rattle.sol_meaning.specs.Run.{door};
 ghost use Rattle.sol_script.specs.ScriptText.{with_numbers, deploy_line, name_of, call_line, value_words, answer_line};
 
 use chc_nums::{Name, NoMemory};
+use itoa::Buffer;
 use sol_core::{Answer, Program, Script};
 use std::alloc::Global;
 
@@ -13,9 +14,10 @@ use std::alloc::Global;
 pub fn deploy_line(alloc: Global, s: &Script) -> Result<Name, NoMemory>
     ensures { IfOk result (λ line. line ≡ deploy_line s.now) }
 {
-    let text = with_number(alloc, "deploy", &s.sender)?;
-    let text = with_numbers(alloc, text, s.args.as_slice())?;
-    ended(alloc, text.as_str())
+    let mut text = String::from_str(alloc, "deploy")?;
+    add_number(&mut text, s.sender)?;
+    add_numbers(&mut text, s.args.as_slice())?;
+    ended_by_line_feed(text)
 }
 
 /// `call NAME SENDER ARGUMENTS`
@@ -28,10 +30,10 @@ pub fn call_line(
 ) -> Result<Name, NoMemory>
     ensures { IfOk result (λ line. line ≡ call_line p.now place sender.now args.now) }
 {
-    let text = call_words(alloc, name_at(p, place))?;
-    let text = with_number(alloc, text.as_str(), sender)?;
-    let text = with_numbers(alloc, text, args)?;
-    ended(alloc, text.as_str())
+    let mut text = call_words(alloc, name_at(p, place))?;
+    add_number(&mut text, *sender)?;
+    add_numbers(&mut text, args)?;
+    ended_by_line_feed(text)
 }
 
 fn call_words(alloc: Global, name: &str) -> Result<String, NoMemory>
@@ -56,8 +58,9 @@ fn give_line(alloc: Global, value: &Option<i128>) -> Result<Name, NoMemory>
     match value {
         None => ended(alloc, "give"),
         Some(n) => {
-            let text = with_number(alloc, "give", n)?;
-            ended(alloc, text.as_str())
+            let mut text = String::from_str(alloc, "give")?;
+            add_number(&mut text, *n)?;
+            ended_by_line_feed(text)
         }
     }
 }
@@ -82,18 +85,29 @@ fn name_at(p: &Program, place: u32) -> &str
     }
 }
 
-fn with_numbers(alloc: Global, text: String, numbers: &[i128]) -> Result<String, NoMemory>
-    ensures { IfOk result (λ t. string_bytes t ≡ with_numbers (string_bytes text) numbers.now) }
+// A text that is a line's words, with the line's end behind them.
+fn ended_by_line_feed(text: String) -> Result<Name, NoMemory>
+    ensures { IfOk result (λ line. line ≡ string_bytes text ++ codes "\n") }
 {
     let mut text = text;
-    for n in numbers {
-        text = with_number(alloc, text.as_str(), n)?;
-    }
-    Ok(text)
+    text.push_str("\n")?;
+    Ok(Name::from_string(text))
 }
 
-fn with_number(alloc: Global, text: &str, n: &i128) -> Result<String, NoMemory>
-    ensures { IfOk result (λ t. string_bytes t ≡ text.now ++ codes " " ++ signed_decimal n.now) }
+fn add_numbers(text: &mut String, numbers: &[i128]) -> Result<(), NoMemory>
+    ensures { OnOk result (string_bytes text.new ≡ with_numbers (string_bytes text.old) numbers.now) }
 {
-    Ok(format!(in alloc; "{text} {n}")?)
+    for n in numbers {
+        add_number(text, *n)?;
+    }
+    Ok(())
+}
+
+fn add_number(text: &mut String, n: i128) -> Result<(), NoMemory>
+    ensures { OnOk result (string_bytes text.new ≡ string_bytes text.old ++ codes " " ++ signed_decimal n) }
+{
+    let mut buffer = Buffer::new();
+    text.push_str(" ")?;
+    text.push_str(buffer.format(n))?;
+    Ok(())
 }

@@ -18,7 +18,7 @@ pub eval-returns-in-Value-clause-ran : goal.eval-returns-in-Value-clause-ran
 eval-returns-in-Value-clause-ran t c =
     let first : eval c.in-Arith.a c.args.w.now ≡ (got.Value c.in-Value.x, c.eval.new.w) =
     ap (λ (e : Expr). eval e c.args.w.now) (sym c.get.ensures) ∙ c.in_ok-x-in-Arith.ensures.ran ∙ ap (λ (g : Got). (g, c.eval.new.w)) c.in-Value.is in
-    let all = ap (λ (e : Expr). eval e c.args.w.now) c.in-Arith.is ∙ eval-first c.in-Arith.op c.in-Arith.ty c.in-Arith.checked c.in-Arith.a c.in-Arith.b c.in-Arith.marks c.args.w.now c.eval.new.w c.in-Value.x c.if-not-checked.false first in
+    let all = ap (λ (e : Expr). eval e c.args.w.now) c.in-Arith.is ∙ eval-first c.in-Arith.op c.in-Arith.ty c.in-Arith.checked c.in-Arith.a c.in-Arith.b c.in-Arith.panics c.args.w.now c.eval.new.w c.in-Value.x c.if-not-checked.false first in
     let fits : FitsSigned w128 c.in-Value.x = search rules in
     let exact = simp to_z-of_z at c.arith_to.ensures.ran in
     let second = rw c.get-in-Value.ensures at exact in
@@ -27,13 +27,13 @@ eval-returns-in-Value-clause-ran t c =
 
 pub eval-eval-requires : goal.eval-eval-requires
 eval-eval-requires t c =
-    let sized : expr_sized (Arith c.in-Arith.op c.in-Arith.ty c.in-Arith.checked c.in-Arith.a c.in-Arith.b c.in-Arith.marks) ≡ true = ap expr_sized (sym c.in-Arith.is) ∙ c.requires in
-    (search (rules, the_lemmas), ap expr_sized c.get.ensures ∙ arith-first c.in-Arith.op c.in-Arith.ty c.in-Arith.checked c.in-Arith.a c.in-Arith.b c.in-Arith.marks sized)
+    let sized : expr_sized (Arith c.in-Arith.op c.in-Arith.ty c.in-Arith.checked c.in-Arith.a c.in-Arith.b c.in-Arith.panics) ≡ true = ap expr_sized (sym c.in-Arith.is) ∙ c.requires in
+    (search (rules, the_lemmas), ap expr_sized c.get.ensures ∙ arith-first c.in-Arith.op c.in-Arith.ty c.in-Arith.checked c.in-Arith.a c.in-Arith.b c.in-Arith.panics sized)
 
 pub eval-arith_to-requires : goal.eval-arith_to-requires
 eval-arith_to-requires t c =
-    let sized : expr_sized (Arith c.in-Arith.op c.in-Arith.ty c.in-Arith.checked c.in-Arith.a c.in-Arith.b c.in-Arith.marks) ≡ true = ap expr_sized (sym c.in-Arith.is) ∙ c.requires in
-    (search (rules, the_lemmas), (ap expr_sized c.get-in-Value.ensures ∙ arith-second c.in-Arith.op c.in-Arith.ty c.in-Arith.checked c.in-Arith.a c.in-Arith.b c.in-Arith.marks sized, arith-type c.in-Arith.op c.in-Arith.ty c.in-Arith.checked c.in-Arith.a c.in-Arith.b c.in-Arith.marks sized))
+    let sized : expr_sized (Arith c.in-Arith.op c.in-Arith.ty c.in-Arith.checked c.in-Arith.a c.in-Arith.b c.in-Arith.panics) ≡ true = ap expr_sized (sym c.in-Arith.is) ∙ c.requires in
+    (search (rules, the_lemmas), (ap expr_sized c.get-in-Value.ensures ∙ arith-second c.in-Arith.op c.in-Arith.ty c.in-Arith.checked c.in-Arith.a c.in-Arith.b c.in-Arith.panics sized, arith-type c.in-Arith.op c.in-Arith.ty c.in-Arith.checked c.in-Arith.a c.in-Arith.b c.in-Arith.panics sized))
 
 pub eval-eval-requires-in-Compare : goal.eval-eval-requires-in-Compare
 eval-eval-requires-in-Compare t c =
