@@ -2,3 +2,5 @@ pub mod Writing
 pub mod Sources
 pub mod Findings
 pub mod Outcomes
+pub mod Numbers
+pub mod Exactly

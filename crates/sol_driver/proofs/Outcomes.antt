@@ -13,26 +13,27 @@ use Rattle.sol_driver.specs.Ends.{Asked, Told, Found, ToldWithoutMemory, before,
 use Rattle.sol_driver.specs.Findings.{IsFinding}
 use Rattle.sol_driver.specs.Outcomes.{TellsText, whole, part, stopped, without_memory}
 use Rattle.sol_driver.specs.Texts.{status_of, status_line}
-use Rattle.sol_driver.proofs.Writing.{appended-whole, appended-nothing}
+use Rattle.sol_outside.proofs.Writing.{appended-nothing}
+use Rattle.sol_driver.proofs.Writing.{appended-whole}
 
 -- whatever a put answers, it wrote a part
 pub puts_part : (earlier now : ℕ) (old new : Option (List ℕ)) (bytes : List ℕ) (r : Result (Unit {0}) SinkFault) → Puts earlier now old new bytes r → AppendedPart old new bytes
 puts_part earlier now old new bytes (Ok u) h = appended-whole old new bytes h.1
-puts_part earlier now old new bytes (Err sink.Failed) h = h.2
+puts_part earlier now old new bytes (Err sink.Failed) h = h.1
 puts_part earlier now old new bytes (Err sink.NoMemory) h = (0, rw h.1 (appended-nothing old))
 
 pub ruleset attempts = (puts_part)
 
 found-ends : (a : Asked) (t : Told) (s : Status) (r : Option Report) (text : List ℕ) (o : Outcome) → Found a s r text → TellsText s r text t o → Ends a t o
-found-ends a t status.Good r text _ f (whole w) = record { text = text; found = f; written = w }
-found-ends a t status.Unsafe r text _ f (whole w) = record { text = text; found = f; written = w }
-found-ends a t status.Unknown r text _ f (whole w) = record { text = text; found = f; written = w }
-found-ends a t status.Source r text _ f (whole w) = record { text = text; found = f; written = w }
-found-ends a t status.Words r text _ f (whole w) = record { text = text; found = f; written = w }
-found-ends a t status.ReadFault r text _ f (whole w) = record { text = text; found = f; written = w }
-found-ends a t status.TooLong r text _ f (whole w) = record { text = text; found = f; written = w }
-found-ends a t status.WriteFault r text _ f (whole w) = absurd f
-found-ends a t status.NoMemory r text _ f (whole w) = absurd f
+found-ends a t status.Good r text _ f (whole good w) = record { text = text; found = f; written = w; good = good }
+found-ends a t status.Unsafe r text _ f (whole good w) = record { text = text; found = f; written = w; good = good }
+found-ends a t status.Unknown r text _ f (whole good w) = record { text = text; found = f; written = w; good = good }
+found-ends a t status.Source r text _ f (whole good w) = record { text = text; found = f; written = w; good = good }
+found-ends a t status.Words r text _ f (whole good w) = record { text = text; found = f; written = w; good = good }
+found-ends a t status.ReadFault r text _ f (whole good w) = record { text = text; found = f; written = w; good = good }
+found-ends a t status.TooLong r text _ f (whole good w) = record { text = text; found = f; written = w; good = good }
+found-ends a t status.WriteFault r text _ f (whole good w) = absurd f
+found-ends a t status.NoMemory r text _ f (whole good w) = absurd f
 found-ends a t s r text _ f (part rose w) = record { status = s; text = text; found = f; written = w; rose = rose }
 found-ends a t s r text _ f (stopped between w v) = within s text f between w v
 found-ends a t s r text _ f (without_memory w) = before w

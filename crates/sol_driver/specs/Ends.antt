@@ -2,6 +2,7 @@
 use Rattle.std.specs.Prelude.{ℕ, ◌≡◌, ◌<◌, ◌≤◌, List, length, Option, Some, None, IfSome}
 use Rattle.std.specs.declared.string.String.{String}
 use Rattle.std.specs.declared.alloc.Global.{Global}
+use Rattle.chc_nums.specs.declared.limits.TheConstants.{MAX_FILE_BYTES}
 use Rattle.sol_outside.specs.Causes.{Rose, Appended, AppendedPart}
 use Rattle.sol_report.specs.declared.Report.{Report}
 use Rattle.sol_report.specs.Texts.{text_of}
@@ -32,12 +33,21 @@ pub record Told : Type 0 where
 abbrev pub Names : Asked → List ℕ → Type 0
 Names a name = command a.words ≡ Some name
 
+-- no read failed
+abbrev pub NoReadFault : Asked → Type 0
+NoReadFault a = a.faults_after ≡ a.faults_before
+
+-- no put failed
+abbrev pub NoWriteFault : Told → Type 0
+NoWriteFault t = t.faults_after ≡ t.faults_before
+
 -- the bytes are those of the file that the words name, where the shelf tells them; they are at most 262,144
 pub record WasRead (a : Asked) (bytes : List ℕ) : Type 0 where
   pub name : List ℕ
   pub named : Names a name
+  pub good : NoReadFault a
   pub held : IfSome (a.holds name) (λ those. those ≡ bytes)
-  pub short : length bytes ≤ 262144
+  pub short : length bytes ≤ MAX_FILE_BYTES
 
 -- the file was read, its text is of the language, and this is a right report of it with this status
 pub record Reported (a : Asked) (s : Status) (r : Report) : Type 0 where
@@ -52,7 +62,7 @@ pub record Refused (a : Asked) (line : List ℕ) : Type 0 where
   pub read : WasRead a bytes
   pub refused : IsRefusedWith bytes line
 
--- the words name a file, and the shelf's count of faults rose
+-- the words name a file, and the read of it failed: the shelf's count of faults rose by it
 pub record ReadFailed (a : Asked) : Type 0 where
   pub name : List ℕ
   pub named : Names a name
@@ -62,7 +72,12 @@ pub record ReadFailed (a : Asked) : Type 0 where
 pub record TooLong (a : Asked) : Type 0 where
   pub name : List ℕ
   pub named : Names a name
-  pub long : IfSome (a.holds name) (λ those. 262144 < length those)
+  pub good : NoReadFault a
+  pub long : IfSome (a.holds name) (λ those. MAX_FILE_BYTES < length those)
+
+-- the words are of no form that is read, and nothing was read
+abbrev pub Strange : Asked → Type 0
+Strange a = (command a.words ≡ None) × NoReadFault a
 
 -- what was found before anything was written: a status, its report, if it has one, and the text of both
 abbrev pub Found : Asked → Status → Option Report → List ℕ → Type 0
@@ -74,7 +89,7 @@ Found a status.Unknown (Some r) text = Reported a status.Unknown r × (text ≡ 
 Found a status.Unknown None text = ⊥
 Found a status.Source None text = Refused a text
 Found a status.Source (Some r) text = ⊥
-Found a status.Words None text = (command a.words ≡ None) × (text ≡ status_line status.Words)
+Found a status.Words None text = Strange a × (text ≡ status_line status.Words)
 Found a status.Words (Some r) text = ⊥
 Found a status.ReadFault None text = ReadFailed a × (text ≡ status_line status.ReadFault)
 Found a status.ReadFault (Some r) text = ⊥
@@ -88,6 +103,7 @@ pub record ToldWhole (a : Asked) (t : Told) (s : Status) (r : Option Report) : T
   pub text : List ℕ
   pub found : Found a s r text
   pub written : Appended t.written_before t.written_after text
+  pub good : NoWriteFault t
 
 -- a put of what was found failed: the sink's count of faults rose, and a prefix of the text was written
 pub record ToldPart (a : Asked) (t : Told) (r : Option Report) : Type 0 where
@@ -104,8 +120,7 @@ pub data ToldWithoutMemory (a : Asked) (t : Told) : Option Report → Type 0 whe
   within : (s : Status) (text : List ℕ) {r : Option Report} → Found a s r text → (between : Option (List ℕ)) → AppendedPart t.written_before between text → AppendedPart between t.written_after (status_line status.NoMemory) → ToldWithoutMemory a t r
 
 -- Each status but those of a failed put and of want of memory comes only by what was found, which was then written
--- whole. The causes of any two of them exclude each other, so each comes exactly where its cause is, but that a failed
--- put and want of memory may come in its place. When memory is wanting is free.
+-- whole. How far each comes exactly where its cause is stands in `src/laws.rt`. When memory is wanting is free.
 abbrev pub EndsAs : Asked → Told → Status → Option Report → Type 0
 EndsAs a t status.Good r = ToldWhole a t status.Good r
 EndsAs a t status.Unsafe r = ToldWhole a t status.Unsafe r
@@ -119,3 +134,7 @@ EndsAs a t status.NoMemory r = ToldWithoutMemory a t r
 
 abbrev pub Ends : Asked → Told → Outcome → Type 0
 Ends a t o = EndsAs a t o.status o.report
+
+-- the end has this status, with a report or none
+abbrev pub EndsWith : Asked → Told → Status → Type 0
+EndsWith a t s = (report : Option Report) × EndsAs a t s report

@@ -6,3 +6,5 @@ pub mod Ends
 pub mod Told
 pub mod Findings
 pub mod Outcomes
+pub mod Exactly
+pub mod Program

@@ -7,6 +7,7 @@ ghost use Rattle.sol_driver.specs.Findings.{Checks};
 ghost use Rattle.sol_driver.specs.Refusals.{HasTree};
 
 use crate::refusal::Refusal;
+use chc_nums::MAX_FILE_BYTES;
 use sol_check::check_contract;
 use sol_lexer::{LexFault, lex};
 use sol_names::{Lineage, NameFault, order};
@@ -32,7 +33,7 @@ fn check_ordered(
     file: &File,
     lineage: &Lineage,
 ) -> Result<Report, CheckFault>
-    requires short { length text.now ≤ 262144 }
+    requires short { length text.now ≤ MAX_FILE_BYTES }
     requires tree { HasTree text.now file.now }
     requires ordered { Orders file.now.units None (Ok lineage.now) }
     ensures { Checks text.now result }
@@ -51,7 +52,7 @@ fn check_ordered(
 // The report of a text whose tree is this.
 #[tactic(auto, using(crate::proofs::Sources::orders))]
 fn check_tree(alloc: Global, text: &[u8], file: &File) -> Result<Report, CheckFault>
-    requires short { length text.now ≤ 262144 }
+    requires short { length text.now ≤ MAX_FILE_BYTES }
     requires tree { HasTree text.now file.now }
     ensures { Checks text.now result }
 {
@@ -65,7 +66,7 @@ fn check_tree(alloc: Global, text: &[u8], file: &File) -> Result<Report, CheckFa
 // The report of a text whose tokens are these.
 #[tactic(auto, using(crate::proofs::Sources::sources))]
 fn check_tokens(alloc: Global, text: &[u8], tokens: &[Token]) -> Result<Report, CheckFault>
-    requires short { length text.now ≤ 262144 }
+    requires short { length text.now ≤ MAX_FILE_BYTES }
     requires tokens { Tokenizes text.now tokens.now }
     ensures { Checks text.now result }
 {
@@ -78,7 +79,7 @@ fn check_tokens(alloc: Global, text: &[u8], tokens: &[Token]) -> Result<Report, 
 
 /// The report of a text.
 pub fn check(alloc: Global, text: &[u8]) -> Result<Report, CheckFault>
-    requires { length text.now ≤ 262144 }
+    requires { length text.now ≤ MAX_FILE_BYTES }
     ensures { Checks text.now result }
 {
     match lex(alloc, text) {

@@ -8,13 +8,10 @@ use crate::check::{CheckFault, check};
 use crate::command::checked_file;
 use crate::outcome::Status;
 use crate::refusal::refusal_line;
-use chc_nums::{List, NoMemory};
+use chc_nums::{List, MAX_FILE_BYTES, NoMemory};
 use sol_outside::{Shelf, ShelfFault};
 use sol_report::Report;
 use std::alloc::Global;
-
-// The most bytes of a file.
-const MOST: u32 = 262_144;
 
 /// What there is to tell: the one line of a status, the line of a refused text, or a report.
 #[derive(Drop)]
@@ -26,7 +23,7 @@ pub enum Finding {
 
 // What there is to tell of the bytes that were read.
 fn find_in(alloc: Global, bytes: &[u8]) -> Result<Finding, NoMemory>
-    requires { length bytes.now ≤ 262144 }
+    requires { length bytes.now ≤ MAX_FILE_BYTES }
     ensures { IfOk result (λ f. IsJudged bytes.now f) }
 {
     match check(alloc, bytes) {
@@ -50,13 +47,8 @@ pub fn find<F: Shelf>(alloc: Global, words: &[String], shelf: &mut F) -> Result<
     let Some(name) = checked_file(words) else {
         return Ok(Finding::Line(Status::Words));
     };
-    match shelf.read(alloc, name, MOST) {
-        Ok(bytes) => {
-            if bytes.len() > MOST as usize {
-                return Ok(Finding::Line(Status::TooLong));
-            }
-            find_in(alloc, bytes.as_slice())
-        }
+    match shelf.read(alloc, name, MAX_FILE_BYTES) {
+        Ok(bytes) => find_in(alloc, bytes.as_slice()),
         Err(ShelfFault::Failed) => Ok(Finding::Line(Status::ReadFault)),
         Err(ShelfFault::TooLong { .. }) => Ok(Finding::Line(Status::TooLong)),
         Err(ShelfFault::NoMemory) => Err(NoMemory),

@@ -6,12 +6,14 @@
 mod check;
 mod command;
 mod find;
+mod laws;
 mod outcome;
+mod program;
 mod refusal;
 mod tell;
-#[cfg(test)]
-mod tests;
 mod top;
 
+pub use laws::status_laws;
 pub use outcome::{Outcome, Status, code};
+pub use program::{given_words, run_program, run_status};
 pub use top::{run_alone, run_main};

@@ -3,7 +3,7 @@
 ghost use Rattle.std.specs.Prelude.{◌≡◌, ◌≤◌, ◌++◌, length, take, drop, codes, IfOk};
 ghost use Rattle.sol_driver.specs.Refusals.{place_of_fault, fault_words, placed_line, naming_line, refusal_line};
 
-use chc_nums::{List, NoMemory};
+use chc_nums::{List, MAX_FILE_BYTES, NoMemory};
 use sol_lexer::LexFault;
 use sol_names::NameFault;
 use sol_reader::Lines;
@@ -75,7 +75,7 @@ fn fault_words(alloc: Global, text: &[u8], fault: LexFault) -> Result<List<u8>, 
 
 // The line of a refusal at a place.
 fn placed_line(alloc: Global, text: &[u8], at: u32, words: &[u8]) -> Result<List<u8>, NoMemory>
-    requires { length text.now ≤ 262144 }
+    requires { length text.now ≤ MAX_FILE_BYTES }
     ensures { IfOk result (λ line. line ≡ placed_line text.now at words.now) }
 {
     let lines = Lines::new(alloc, text)?;
@@ -90,7 +90,7 @@ fn placed_line(alloc: Global, text: &[u8], at: u32, words: &[u8]) -> Result<List
 
 // The line of a fault of names.
 fn naming_line(alloc: Global, text: &[u8], fault: NameFault) -> Result<List<u8>, NoMemory>
-    requires { length text.now ≤ 262144 }
+    requires { length text.now ≤ MAX_FILE_BYTES }
     ensures { IfOk result (λ line. line ≡ naming_line text.now fault) }
 {
     match fault {
@@ -105,7 +105,7 @@ fn naming_line(alloc: Global, text: &[u8], fault: NameFault) -> Result<List<u8>,
 
 /// The line that tells why a text is refused.
 pub fn refusal_line(alloc: Global, text: &[u8], refusal: Refusal) -> Result<List<u8>, NoMemory>
-    requires { length text.now ≤ 262144 }
+    requires { length text.now ≤ MAX_FILE_BYTES }
     ensures { IfOk result (λ line. line ≡ refusal_line text.now refusal) }
 {
     match refusal {

@@ -16,9 +16,9 @@ use std::alloc::Global;
 use std::sync::Wait;
 use std::thread::Threads;
 
-// Want of memory is told once, as well as it can be; a fault of that changes nothing.
+/// Want of memory is told once, as well as it can be; a fault of that changes nothing.
 #[tactic(auto, using(crate::proofs::Outcomes::attempts))]
-fn without_memory<K: Sink>(report: Option<Report>, out: &mut K) -> Outcome
+pub fn without_memory<K: Sink>(report: Option<Report>, out: &mut K) -> Outcome
     ensures outcome { result ≡ record { status = Status.NoMemory; report = report } }
     ensures written { AppendedPart (K.written out.old) (K.written out.new) (status_line Status.NoMemory) }
 {

@@ -1,15 +1,37 @@
-// Files and standard output. They tell nothing of content.
+// Files and standard output, by the loops over parts. They tell nothing of content.
 
-ghost use Rattle.std.specs.Prelude.{◌≡◌, ◌≤◌, ◌+◌, ◌<◌, None};
+ghost use Rattle.std.specs.Prelude.{◌≡◌, ◌≢◌, None, Err};
+ghost use Rattle.sol_outside.specs.Causes.{Puts};
 
 use crate::ends::{Shelf, ShelfFault, Sink, SinkFault};
+use crate::parts::{ByteReader, ByteWriter, PartFault, read_all, write_all};
 use std::alloc::Global;
 use std::fs;
 use std::io::Read;
 use std::rt::Files;
 
-// The most bytes that one call reads.
-const PART: usize = 4096;
+// An open file, and how many calls on it and on those before it have failed.
+#[derive(Drop)]
+struct OpenFile<F> {
+    file: F,
+    faults: u64,
+}
+
+impl<F: Read> ByteReader for OpenFile<F> {
+    ghost left = { λ s. F.remaining s.file };
+
+    ghost faults = { λ s. s.faults };
+
+    fn read(&mut self, part: &mut [u8]) -> Result<usize, PartFault> {
+        match self.file.read(part) {
+            Ok(n) => Ok(n),
+            Err(_) => {
+                self.faults = self.faults.saturating_add(1);
+                Err(PartFault)
+            }
+        }
+    }
+}
 
 /// Files, by their paths, and how many reads have failed.
 #[derive(Drop)]
@@ -27,48 +49,21 @@ impl<'a, R: Files> FileShelf<'a, R> {
     }
 }
 
-// How many bytes to ask for: one more than may be read in all shows a file that is too long.
-fn room(max: u32, read: usize) -> usize
-    requires { read ≤ max }
-    ensures some { 0 < result }
-    ensures part { result ≤ 4096 }
-    ensures most { read + result ≤ max + 1 }
-{
-    let left = max as usize + 1 - read;
-    left.min(PART)
-}
-
 impl<R: Files> Shelf for FileShelf<'_, R> {
     ghost holds = { λ s name. None };
 
     ghost faults = { λ s. s.faults };
 
     fn read(&mut self, alloc: Global, name: &str, max: u32) -> Result<Vec<u8>, ShelfFault> {
-        let Ok(mut file) = fs::open(self.rt, name) else {
+        let Ok(file) = fs::open(self.rt, name) else {
             self.faults = self.faults.saturating_add(1);
             return Err(ShelfFault::Failed);
         };
-        let mut bytes = Vec::new(alloc);
-        for _turn in 0..u64::from(max) + 2 {
-            let mut part = [0u8; PART];
-            let room = room(max, bytes.len());
-            match file.read(&mut part[..room]) {
-                Err(_) => {
-                    self.faults = self.faults.saturating_add(1);
-                    return Err(ShelfFault::Failed);
-                }
-                Ok(0) => return Ok(bytes),
-                Ok(n) => {
-                    if bytes.len() + n > max as usize {
-                        return Err(ShelfFault::TooLong { max });
-                    }
-                    if bytes.extend_from_slice(&part[..n]).is_err() {
-                        return Err(ShelfFault::NoMemory);
-                    }
-                }
-            }
-        }
-        Err(ShelfFault::TooLong { max })
+        let faults = self.faults;
+        let mut open = OpenFile { file, faults };
+        let answer = read_all(alloc, &mut open, max);
+        self.faults = open.faults;
+        answer
     }
 }
 
@@ -88,22 +83,29 @@ impl<'a, R: Print> StdSink<'a, R> {
     }
 }
 
+impl<R: Print> ByteWriter for StdSink<'_, R> {
+    ghost taken = { λ s. None };
+
+    ghost faults = { λ s. s.faults };
+
+    fn write(&mut self, bytes: &[u8]) -> Result<usize, PartFault> {
+        let answer = self.rt.write_some(bytes);
+        if let Ok(n) = answer
+            && n > 0
+        {
+            return Ok(n);
+        }
+        self.faults = self.faults.saturating_add(1);
+        Err(PartFault)
+    }
+}
+
 impl<R: Print> Sink for StdSink<'_, R> {
     ghost written = { λ s. None };
 
     ghost faults = { λ s. s.faults };
 
     fn put(&mut self, bytes: &[u8]) -> Result<(), SinkFault> {
-        let mut done = 0;
-        while done < bytes.len() {
-            match self.rt.write_some(&bytes[done..]) {
-                Ok(n) if n > 0 => done += n,
-                _ => {
-                    self.faults = self.faults.saturating_add(1);
-                    return Err(SinkFault::Failed);
-                }
-            }
-        }
-        Ok(())
+        write_all(self, bytes)
     }
 }

@@ -25,11 +25,11 @@ pub trait Shelf {
     /// The bytes under a name, where the shelf tells them.
     ghost holds: { Self → List ℕ → Option (List ℕ) };
 
-    /// How many reads have failed. It never falls, and stays at the end of its type.
+    /// How many reads have failed. It stays at the end of its type.
     ghost faults: { Self → ℕ };
 
-    /// The bytes under a name, at most `max` of them. `Failed` comes only where the count of faults rose, and
-    /// `TooLong` only where there are more bytes. No read changes what the shelf holds.
+    /// The bytes under a name, at most `max` of them. `Failed` comes exactly where the count of faults rises, by this
+    /// call's fault alone, and `TooLong` only where there are more bytes. No read changes what the shelf holds.
     fn read(&mut self, alloc: Global, name: &str, max: u32) -> Result<Vec<u8>, ShelfFault>
         ensures reads { Reads (faults self.old) (faults self.new) (holds self.old name.now) max result }
         ensures same { holds self.new ≡ holds self.old };
@@ -40,11 +40,11 @@ pub trait Sink {
     /// What was written, where the sink tells it.
     ghost written: { Self → Option (List ℕ) };
 
-    /// How many puts have failed. It never falls, and stays at the end of its type.
+    /// How many puts have failed. It stays at the end of its type.
     ghost faults: { Self → ℕ };
 
-    /// Writes the bytes at the end. After `Failed`, for which the count of faults rose, a prefix of them was written;
-    /// after `NoMemory` nothing was.
+    /// Writes the bytes at the end. After `Failed`, for which alone the count of faults rises, by this call's fault, a
+    /// prefix of them was written; after `NoMemory` nothing was.
     fn put(&mut self, bytes: &[u8]) -> Result<(), SinkFault>
         ensures { Puts (faults self.old) (faults self.new) (written self.old) (written self.new) bytes.now result };
 }

@@ -5,9 +5,11 @@
 mod disk;
 mod ends;
 mod memory;
-#[cfg(test)]
-mod tests;
+mod parts;
+mod told_parts;
 
 pub use disk::{FileShelf, StdSink};
 pub use ends::{Gate, OpenGate, Shelf, ShelfFault, Sink, SinkFault};
 pub use memory::{MemShelf, MemSink};
+pub use parts::{ByteReader, ByteWriter, PartFault, read_all, write_all};
+pub use told_parts::{MemReader, MemWriter, PartStep};

@@ -1,7 +1,9 @@
 // Files and output in memory, with calls that fail by number.
 
-ghost use Rattle.std.specs.Prelude.{◌≡◌, [], List, ℕ, Option, Some, None, MatchOption, length, ◌≤◌};
+ghost use Rattle.std.specs.Prelude.{◌≡◌, [], List, ℕ, Option, Some, None, MatchOption, length, ◌≤◌, ◌+◌, ◌-◌, ◌^◌, min};
+ghost use Rattle.sol_outside.specs.Causes.{Reads, Puts};
 ghost use Rattle.sol_outside.specs.Held.{held};
+ghost use Rattle.sol_outside.specs.Numbered.{is_told, told_cut, ReadsAsTold, PutsAsTold};
 
 use crate::ends::{Shelf, ShelfFault, Sink, SinkFault};
 use std::alloc::Global;
@@ -45,6 +47,18 @@ fn find<'a>(files: &'a [(String, Vec<u8>)], name: &str) -> Option<&'a [u8]>
     None
 }
 
+// Whether a number stands in a list.
+fn is_told(fails: &[u32], number: u32) -> bool
+    ensures { result ≡ is_told fails.now number }
+{
+    for told in fails {
+        if *told == number {
+            return true;
+        }
+    }
+    false
+}
+
 impl Shelf for MemShelf {
     ghost use Rattle.sol_outside.specs.Held.{held};
 
@@ -52,10 +66,16 @@ impl Shelf for MemShelf {
 
     ghost faults = { λ s. s.faults };
 
-    fn read(&mut self, alloc: Global, name: &str, max: u32) -> Result<Vec<u8>, ShelfFault> {
+    fn read(&mut self, alloc: Global, name: &str, max: u32) -> Result<Vec<u8>, ShelfFault>
+        ensures reads { Reads self.old.faults self.new.faults (held self.old.files.items name.now) max result }
+        ensures told { ReadsAsTold (is_told self.old.fails.items self.old.next) (held self.old.files.items name.now) max result }
+        ensures number { self.new.next ≡ min (self.old.next + 1) (2 ^ 32 - 1) }
+        ensures files { self.new.files ≡ self.old.files }
+        ensures fails { self.new.fails ≡ self.old.fails }
+    {
         let number = self.next;
         self.next = self.next.saturating_add(1);
-        if self.fails.contains(&number) {
+        if is_told(self.fails.as_slice(), number) {
             self.faults = self.faults.saturating_add(1);
             return Err(ShelfFault::Failed);
         }
@@ -106,10 +126,13 @@ impl MemSink {
     }
 }
 
-fn cut(fails: &[(u32, u32)], number: u32) -> Option<u32> {
-    for (at, after) in fails {
-        if *at == number {
-            return Some(*after);
+// After how many bytes the put of a number is told to fail.
+fn told_cut(fails: &[(u32, u32)], number: u32) -> Option<u32>
+    ensures { result ≡ told_cut fails.now number }
+{
+    for entry in fails {
+        if entry.0 == number {
+            return Some(entry.1);
         }
     }
     None
@@ -120,8 +143,13 @@ impl Sink for MemSink {
 
     ghost faults = { λ s. s.faults };
 
-    fn put(&mut self, bytes: &[u8]) -> Result<(), SinkFault> {
-        let cut = cut(self.fails.as_slice(), self.next);
+    fn put(&mut self, bytes: &[u8]) -> Result<(), SinkFault>
+        ensures puts { Puts self.old.faults self.new.faults (Some self.old.held.items) (Some self.new.held.items) bytes.now result }
+        ensures told { PutsAsTold (told_cut self.old.fails.items self.old.next) self.old.held.items self.new.held.items bytes.now result }
+        ensures number { self.new.next ≡ min (self.old.next + 1) (2 ^ 32 - 1) }
+        ensures fails { self.new.fails ≡ self.old.fails }
+    {
+        let cut = told_cut(self.fails.as_slice(), self.next);
         self.next = self.next.saturating_add(1);
         let Some(after) = cut else {
             return match self.held.extend_from_slice(bytes) {

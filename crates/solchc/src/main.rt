@@ -1,37 +1,43 @@
-//! The program: the words of the command line, files and standard output go to the driver's top call, and the process
-//! ends with its status.
+//! The program: what the system gives goes to the driver's `run_program`, and the process ends with its number.
 #![tactic(auto)]
 
-use chc_nums::NoMemory;
-use sol_driver::{Status, code, run_main};
+use sol_driver::run_program;
 use sol_outside::{FileShelf, OpenGate, StdSink};
 use std::env;
 use std::process::ExitCode;
+use std::rt::{Env, Files};
+use std::sync::Wait;
+use std::thread::{Builder, Threads};
 
-// The words after the program's name; none where they can't be read, which the driver refuses as words.
-fn words(rt: &HostRuntime) -> Result<Vec<String>, NoMemory> {
-    let mut words = Vec::new(rt.alloc());
-    if let Ok(args) = env::args(rt) {
-        for word in args.skip(1) {
-            words.push(word)?;
-        }
-    }
-    Ok(words)
+// The bytes of stack for the work: how deep a text may nest is not to hang on what the system gives the first thread.
+const STACK: usize = 256 * 1024 * 1024;
+
+fn work<R: Files + Print + Env + AllocGlobal + Threads + Wait + Sync, E: Print>(
+    rt: &R,
+    errors: &E,
+) -> u8 {
+    let args = env::args(rt).ok();
+    let mut shelf = FileShelf::new(rt);
+    let mut out = StdSink::new(rt);
+    let mut notes = StdSink::new(errors);
+    run_program(
+        rt,
+        rt.alloc(),
+        args,
+        &mut shelf,
+        &mut out,
+        &mut notes,
+        &OpenGate,
+    )
 }
 
+// Where no thread can be made, the first does the work.
 fn main(rt: HostRuntime) -> ExitCode {
-    let Ok(words) = words(&rt) else {
-        return ExitCode::from(code(Status::NoMemory));
-    };
-    let mut shelf = FileShelf::new(&rt);
-    let mut sink = StdSink::new(&rt);
-    let outcome = run_main(
-        &rt,
-        rt.alloc(),
-        words.as_slice(),
-        &mut shelf,
-        &mut sink,
-        &OpenGate,
-    );
-    ExitCode::from(code(outcome.status))
+    let worker = Builder::new()
+        .stack_size(STACK)
+        .spawn(&rt, move || work(&rt, &rt.stderr()));
+    match worker {
+        Ok(worker) => ExitCode::from(worker.join(&rt)),
+        Err(_) => ExitCode::from(work(&rt, &rt.stderr())),
+    }
 }

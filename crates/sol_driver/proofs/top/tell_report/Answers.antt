@@ -7,13 +7,13 @@ pub returns-in-Ok-tell : goal.returns-in-Ok-tell
 returns-in-Ok-tell g c =
     let same : c.status_of-status.result ≡ status_of c.args.report.verdicts = rw c.as_slice.ensures at c.status_of-status.ensures in
     let written = rw (c.as_slice-2.ensures, c.in-Ok.ensures) at c.in-Ok-tell.ensures.1 in
-    rw same (whole written)
+    rw same (whole c.in-Ok-tell.ensures.0 written)
 
 pub returns-in-Err-Failed : goal.returns-in-Err-Failed
 returns-in-Err-Failed g c =
     let told = rw c.in-Err-Failed.field-0-is at c.in-Err-Failed.ensures in
-    let written = rw (c.as_slice-2.ensures, c.in-Ok.ensures) at told.2 in
-    part told.1 written
+    let written = rw (c.as_slice-2.ensures, c.in-Ok.ensures) at told.1 in
+    part told.0 written
 
 pub returns : goal.returns
 returns g c =

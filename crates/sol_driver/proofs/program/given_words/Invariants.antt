@@ -1,0 +1,10 @@
+use Rattle.std.proofs.Common.{◌≡◌, ◌++◌, length}
+use Rattle.std.specs.Vec.Iter.{into_iter_items}
+use Rattle.sol_driver.specs.Program.{given_words}
+use Rattle.sol_driver.proofs.program.given_words.Given as goal
+
+abbrev pub invariant-loop-word : goal.invariant-loop-word
+invariant-loop-word l = l.words.items ++ into_iter_items l.args ≡ given_words l.fn.args
+
+abbrev pub decreases-loop-word : goal.decreases-loop-word
+decreases-loop-word l = length (into_iter_items l.args)
