@@ -1,10 +1,10 @@
 #!/usr/bin/env bash
 # Times the proved program on files of some 262,144 bytes that are one chain of contracts, each derived from another: with each
-# base before what is derived from it, and behind it. Build the program first (./solchc or rt ci).
+# base before what is derived from it, and behind it. Build the program first (./prove or rt ci).
 set -u
 top=$(cd "$(dirname "${BASH_SOURCE[0]}")/.." && pwd) || exit 1
 program=$top/crates/solchc/out/solchc
-[ -x "$program" ] || { echo "bases: build the program first: ./solchc check examples/first.sol" >&2; exit 1; }
+[ -x "$program" ] || { echo "bases: build the program first: ./prove" >&2; exit 1; }
 command -v python3 >/dev/null || { echo "bases: python3 is missing, skipped"; exit 0; }
 folder=$(mktemp -d) || exit 1
 trap 'rm -rf "$folder"' EXIT

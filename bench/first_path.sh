@@ -1,10 +1,10 @@
 #!/usr/bin/env bash
 # Times the proved program on a contract of 64 functions of 16 statements each, and prints time and peak memory; where z3
-# is installed, z3 on the same questions stands beside it. Build the program first (./solchc or rt ci).
+# is installed, z3 on the same questions stands beside it. Build the program first (./prove or rt ci).
 set -u
 top=$(cd "$(dirname "${BASH_SOURCE[0]}")/.." && pwd) || exit 1
 program=$top/crates/solchc/out/solchc
-[ -x "$program" ] || { echo "first_path: build the program first: ./solchc check examples/first.sol" >&2; exit 1; }
+[ -x "$program" ] || { echo "first_path: build the program first: ./prove" >&2; exit 1; }
 command -v python3 >/dev/null || { echo "first_path: python3 is missing, skipped"; exit 0; }
 folder=$(mktemp -d) || exit 1
 trap 'rm -rf "$folder"' EXIT

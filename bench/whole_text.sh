@@ -1,10 +1,10 @@
 #!/usr/bin/env bash
 # Times the proved program on a file of 262,144 bytes of ordinary contract text, which is cut into tokens, parsed and then
-# refused as not built, and prints time and peak memory. Build the program first (./solchc or rt ci).
+# refused as not built, and prints time and peak memory. Build the program first (./prove or rt ci).
 set -u
 top=$(cd "$(dirname "${BASH_SOURCE[0]}")/.." && pwd) || exit 1
 program=$top/crates/solchc/out/solchc
-[ -x "$program" ] || { echo "whole_text: build the program first: ./solchc check examples/first.sol" >&2; exit 1; }
+[ -x "$program" ] || { echo "whole_text: build the program first: ./prove" >&2; exit 1; }
 command -v python3 >/dev/null || { echo "whole_text: python3 is missing, skipped"; exit 0; }
 folder=$(mktemp -d) || exit 1
 trap 'rm -rf "$folder"' EXIT
