@@ -2,7 +2,7 @@
 //! `parse` gives the tree, or a place where there is none.
 #![tactic(auto)]
 
-mod lists;
+mod elements;
 mod members;
 mod parser;
 mod parts;

@@ -3,7 +3,7 @@
 ghost use Rattle.sol_parse_expr.specs.Reading.{Gives, Within};
 ghost use Rattle.sol_parser.specs.Reading.{constructor_at, error_at, event_at, fun_at, modifier_at, var_at};
 
-use crate::lists::{Element, enclosed_at, many_at};
+use crate::elements::{Element, enclosed_at, many_at};
 use crate::parts::{INSIDE, body_at, may_params_at, may_returns_at, may_word_at};
 use chc_nums::NoMemory;
 use sol_parse_expr::{Furthest, mark_at, name_at, type_at, word_at};

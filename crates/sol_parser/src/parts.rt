@@ -4,7 +4,7 @@ ghost use Rattle.std.specs.Prelude.{◌≡◌, Some};
 ghost use Rattle.sol_parse_expr.specs.Reading.{Gives, Reads, Within};
 ghost use Rattle.sol_parser.specs.Reading.{base_at, body_at, event_param_at, may_params_at, may_returns_at, may_word_at, named_at, names_at, override_at, param_at};
 
-use crate::lists::{Element, enclosed_at, separated_at};
+use crate::elements::{Element, enclosed_at, separated_at};
 use chc_nums::{List, MAX_LEVELS, NoMemory};
 use sol_parse_expr::{Furthest, mark_at, may_name_at, name_at, type_at, word_at};
 use sol_parse_stmt::{arguments_at, block_at};

@@ -4,7 +4,7 @@ ghost use Rattle.std.specs.Prelude.{◌≡◌};
 ghost use Rattle.sol_parse_expr.specs.Reading.{ReadsTree, WithinTree};
 ghost use Rattle.sol_parser.specs.Reading.{plain_specifier_at};
 
-use crate::lists::Element;
+use crate::elements::Element;
 use crate::parts::{INSIDE, base_at, override_at};
 use chc_nums::NoMemory;
 use sol_parse_expr::{Furthest, word_at};

@@ -5,7 +5,7 @@ ghost use Rattle.sol_parse_expr.specs.Reading.{Gives, Within};
 ghost use Rattle.sol_parser.specs.Grammar.{first_at};
 ghost use Rattle.sol_parser.specs.Reading.{GivesFile, abstract_at, contract_at, file_at, interface_at, may_bases_at, outline_at};
 
-use crate::lists::{Element, many_at, separated_at};
+use crate::elements::{Element, many_at, separated_at};
 use crate::members::{error_at, event_at};
 use chc_nums::{List, NoMemory};
 use sol_parse_expr::{Furthest, mark_at, name_at, word_at};
