@@ -11,7 +11,7 @@ ghost use Rattle.chc_ask.specs.Asked.{left_open, pointed, answered, asked_of};
 use crate::open::{Asked, Open, Why};
 use chc_form::{Formula, Lemma, Limits, Part, Row, System};
 use chc_nums::{List, NoMemory};
-use chc_reduce::{branch, is_plain, reduce, rows};
+use chc_reduce::{FormulaRows, formula_rows, reduce};
 use chc_simplex::{Lp, solve};
 use std::alloc::Global;
 
@@ -61,15 +61,18 @@ fn ask_formula(alloc: Global, f: &Formula, limits: Limits) -> Result<Asked, NoMe
     requires { AllAscend (rows_of f.now) }
     ensures { IfOk result (λ a. a ≡ asked_of limits f.now) }
 {
-    let rows = rows(alloc, f)?;
-    let branch = branch(alloc, f)?;
+    let FormulaRows {
+        rows,
+        branch,
+        plain,
+    } = formula_rows(alloc, f)?;
     let lp = run(alloc, rows.as_slice(), limits.pivots)?;
-    Ok(answered(is_plain(f), branch, lp))
+    Ok(answered(plain, branch, lp))
 }
 
 /// Whether a lemma is true at a rule's head under lemmas, or a query is refuted under them: multipliers that refute the
 /// rows of the formula for it, or why that stays open. A goal beside a query is not looked at. `NoMemory` also stands
-/// for 2^31 rows and for 2^32 variables.
+/// for 2^31 rows.
 #[tactic(auto, using(chc_reduce::proofs::Ordered::orders))]
 pub fn ask(
     alloc: Global,

@@ -60,7 +60,7 @@ fn run_between(
 }
 
 /// Whether a lemma is true at the head of a rule under lemmas whose premises these are: the same as `ask` says of it.
-/// `NoMemory` also stands for 2^31 rows and for 2^32 variables.
+/// `NoMemory` also stands for 2^31 rows.
 #[tactic(auto, using(crate::proofs::Between::goals))]
 pub fn ask_goal(
     alloc: Global,

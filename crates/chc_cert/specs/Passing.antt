@@ -5,8 +5,7 @@ use Rattle.std.specs.Ordering.{int_eq}
 use lib.IntN.{ℤ}
 use lib.Signed.{lt_z}
 use Rattle.chc_form.specs.declared.linear.Lin.{Lin}
-use Rattle.chc_simplex.specs.Endings.{variable_sums, constant_sum, zeros}
-use Rattle.chc_simplex.specs.TableauRun.{width}
+use Rattle.chc_form.specs.RowSums.{variable_sums, constant_sum, zeros, width}
 
 -- no multiplier is negative
 abbrev pub none_negative : List ℤ → Bool

@@ -4,8 +4,7 @@ ghost use Rattle.std.specs.Prelude.{◌≡◌, ◌&&◌, ◌==◌, length, IfOk}
 ghost use Rattle.chc_form.specs.Linear.{lins};
 ghost use Rattle.chc_cert.specs.Passing.{none_negative, is_above, are_gone, passes};
 
-use crate::row_sums::{constant_sum, variable_sums, width, zeros};
-use chc_form::Row;
+use chc_form::{Row, constant_sum, variable_sums, width, zeros};
 use chc_nums::{List, NoMemory};
 use std::alloc::Global;
 

@@ -7,3 +7,4 @@ pub mod Joining
 pub mod Agreeing
 pub mod Deriving
 pub mod Truths
+pub mod RowSums

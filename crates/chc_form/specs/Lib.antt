@@ -4,6 +4,7 @@ pub mod Formulas
 pub mod Lemmas
 pub mod Linear
 pub mod Multipliers
+pub mod RowSums
 pub mod Solving
 pub mod Sums
 pub mod Valuations

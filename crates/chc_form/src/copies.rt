@@ -5,6 +5,7 @@ ghost use Rattle.std.specs.Prelude.{◌≡◌, IfOk};
 use crate::lemma::{Lemma, Lit, LitTerm};
 use crate::linear::{Lin, Row};
 use chc_nums::{List, NoMemory};
+use lists::{Copied, all_copied};
 use std::alloc::Global;
 
 impl Lin {
@@ -30,31 +31,6 @@ impl Row {
     }
 }
 
-impl LitTerm {
-    /// A term that is equal to this one.
-    pub fn copy(&self, alloc: Global) -> Result<LitTerm, NoMemory>
-        ensures { IfOk result (λ t. t ≡ self.now) }
-    {
-        match self {
-            LitTerm::Arg(i) => Ok(LitTerm::Arg(*i)),
-            LitTerm::Key(i) => Ok(LitTerm::Key(*i)),
-            LitTerm::Read(i, keys) => Ok(LitTerm::Read(*i, keys.copy(alloc)?)),
-        }
-    }
-}
-
-impl Lit {
-    /// A literal that is equal to this one.
-    pub fn copy(&self, alloc: Global) -> Result<Lit, NoMemory>
-        ensures { IfOk result (λ l. l ≡ self.now) }
-    {
-        Ok(Lit {
-            terms: copy_terms(alloc, self.terms.as_slice())?,
-            konst: self.konst,
-        })
-    }
-}
-
 impl Lemma {
     /// A lemma that is equal to this one.
     pub fn copy(&self, alloc: Global) -> Result<Lemma, NoMemory>
@@ -63,27 +39,26 @@ impl Lemma {
         Ok(Lemma {
             pred: self.pred,
             keys: self.keys.copy(alloc)?,
-            lits: copy_lits(alloc, self.lits.as_slice())?,
+            lits: List::from_vec(all_copied(alloc, self.lits.as_slice())?),
         })
     }
 }
 
-fn copy_terms(alloc: Global, terms: &[(LitTerm, i128)]) -> Result<List<(LitTerm, i128)>, NoMemory>
-    ensures { IfOk result (λ list. list ≡ terms.now) }
-{
-    let mut copied = List::new(alloc);
-    for term in terms {
-        copied.push((term.0.copy(alloc)?, term.1))?;
+impl Copied for Lit {
+    fn copied(&self, alloc: Global) -> Result<Lit, NoMemory> {
+        Ok(Lit {
+            terms: List::from_vec(all_copied(alloc, self.terms.as_slice())?),
+            konst: self.konst,
+        })
     }
-    Ok(copied)
 }
 
-fn copy_lits(alloc: Global, lits: &[Lit]) -> Result<List<Lit>, NoMemory>
-    ensures { IfOk result (λ list. list ≡ lits.now) }
-{
-    let mut copied = List::new(alloc);
-    for lit in lits {
-        copied.push(lit.copy(alloc)?)?;
+impl Copied for LitTerm {
+    fn copied(&self, alloc: Global) -> Result<LitTerm, NoMemory> {
+        match self {
+            LitTerm::Arg(i) => Ok(LitTerm::Arg(*i)),
+            LitTerm::Key(i) => Ok(LitTerm::Key(*i)),
+            LitTerm::Read(i, keys) => Ok(LitTerm::Read(*i, keys.copy(alloc)?)),
+        }
     }
-    Ok(copied)
 }

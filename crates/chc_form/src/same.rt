@@ -4,14 +4,14 @@ ghost use Rattle.std.specs.Prelude.{◌≡◌, ◌↔◌, IsTrue};
 
 use crate::lemma::{KeyTerm, Lemma, Lit, LitTerm};
 use crate::linear::Lin;
-use chc_nums::Ty;
+use lists::{Same, all_same};
 
 impl Lin {
     /// Whether both have the same terms in the same order and the same constant.
     pub fn is_same(&self, other: &Lin) -> bool
         ensures { IsTrue result ↔ (self.now ≡ other.now) }
     {
-        self.konst == other.konst && same_products(self.terms.as_slice(), other.terms.as_slice())
+        self.konst == other.konst && all_same(self.terms.as_slice(), other.terms.as_slice())
     }
 }
 
@@ -21,132 +21,32 @@ impl Lemma {
         ensures { IsTrue result ↔ (self.now ≡ other.now) }
     {
         self.pred == other.pred
-            && same_keys(self.keys.as_slice(), other.keys.as_slice())
-            && same_lits(self.lits.as_slice(), other.lits.as_slice())
+            && all_same(self.keys.as_slice(), other.keys.as_slice())
+            && all_same(self.lits.as_slice(), other.lits.as_slice())
     }
 }
 
-impl Lit {
-    fn is_same(&self, other: &Lit) -> bool
-        ensures { IsTrue result ↔ (self.now ≡ other.now) }
-    {
-        self.konst == other.konst && same_terms(self.terms.as_slice(), other.terms.as_slice())
+impl Same for Lit {
+    fn is_same(&self, other: &Lit) -> bool {
+        self.konst == other.konst && all_same(self.terms.as_slice(), other.terms.as_slice())
     }
 }
 
-impl LitTerm {
-    fn is_same(&self, other: &LitTerm) -> bool
-        ensures { IsTrue result ↔ (self.now ≡ other.now) }
-    {
+impl Same for LitTerm {
+    fn is_same(&self, other: &LitTerm) -> bool {
         match self {
             LitTerm::Arg(i) => matches!(other, LitTerm::Arg(j) if i == j),
             LitTerm::Key(i) => matches!(other, LitTerm::Key(j) if i == j),
             LitTerm::Read(i, keys) => match other {
-                LitTerm::Read(j, others) => {
-                    i == j && same_key_terms(keys.as_slice(), others.as_slice())
-                }
+                LitTerm::Read(j, others) => i == j && all_same(keys.as_slice(), others.as_slice()),
                 LitTerm::Arg(_) | LitTerm::Key(_) => false,
             },
         }
     }
 }
 
-fn same_products(a: &[(u32, i128)], b: &[(u32, i128)]) -> bool
-    ensures { IsTrue result ↔ (a.now ≡ b.now) }
-{
-    let mut xs = a;
-    let mut ys = b;
-    while let [x, more_xs @ ..] = xs {
-        match ys {
-            [] => return false,
-            [y, more_ys @ ..] => {
-                if x.0 != y.0 || x.1 != y.1 {
-                    return false;
-                }
-                xs = more_xs;
-                ys = more_ys;
-            }
-        }
+impl Same for KeyTerm {
+    fn is_same(&self, other: &KeyTerm) -> bool {
+        *self == *other
     }
-    ys.is_empty()
-}
-
-fn same_keys(a: &[Ty], b: &[Ty]) -> bool
-    ensures { IsTrue result ↔ (a.now ≡ b.now) }
-{
-    let mut xs = a;
-    let mut ys = b;
-    while let [x, more_xs @ ..] = xs {
-        match ys {
-            [] => return false,
-            [y, more_ys @ ..] => {
-                if x != y {
-                    return false;
-                }
-                xs = more_xs;
-                ys = more_ys;
-            }
-        }
-    }
-    ys.is_empty()
-}
-
-fn same_key_terms(a: &[KeyTerm], b: &[KeyTerm]) -> bool
-    ensures { IsTrue result ↔ (a.now ≡ b.now) }
-{
-    let mut xs = a;
-    let mut ys = b;
-    while let [x, more_xs @ ..] = xs {
-        match ys {
-            [] => return false,
-            [y, more_ys @ ..] => {
-                if x != y {
-                    return false;
-                }
-                xs = more_xs;
-                ys = more_ys;
-            }
-        }
-    }
-    ys.is_empty()
-}
-
-fn same_terms(a: &[(LitTerm, i128)], b: &[(LitTerm, i128)]) -> bool
-    ensures { IsTrue result ↔ (a.now ≡ b.now) }
-{
-    let mut xs = a;
-    let mut ys = b;
-    while let [x, more_xs @ ..] = xs {
-        match ys {
-            [] => return false,
-            [y, more_ys @ ..] => {
-                if !x.0.is_same(&y.0) || x.1 != y.1 {
-                    return false;
-                }
-                xs = more_xs;
-                ys = more_ys;
-            }
-        }
-    }
-    ys.is_empty()
-}
-
-fn same_lits(a: &[Lit], b: &[Lit]) -> bool
-    ensures { IsTrue result ↔ (a.now ≡ b.now) }
-{
-    let mut xs = a;
-    let mut ys = b;
-    while let [x, more_xs @ ..] = xs {
-        match ys {
-            [] => return false,
-            [y, more_ys @ ..] => {
-                if !x.is_same(y) {
-                    return false;
-                }
-                xs = more_xs;
-                ys = more_ys;
-            }
-        }
-    }
-    ys.is_empty()
 }

@@ -1,5 +1,5 @@
 -- A round rule by rule is the round candidate by candidate.
-use Rattle.std.proofs.Common.{◌≡◌, ◌∙◌, ap, refl, ℕ, suc, ◌-◌, ◌<◌, ◌≤◌, List, [], ◌∷◌, ◌++◌, ◌==◌, Bool, true, false, map, Some, slice_get, get_or, take, drop, length, arith, append_assoc, append-nil, if◌then◌else◌}
+use Rattle.std.proofs.Common.{◌≡◌, ◌∙◌, ap, refl, ℕ, suc, ◌+◌, ◌-◌, ◌<◌, ◌≤◌, List, [], ◌∷◌, ◌++◌, ◌==◌, Bool, true, false, map, Some, slice_get, get_or, take, drop, length, arith, append_assoc, append-nil, if◌then◌else◌}
 use Rattle.std.proofs.lemmas.Option.{slice_get_within}
 use Rattle.std.proofs.lemmas.List.{map-append}
 use Rattle.std.proofs.Math.Seq.{take-length}
@@ -50,11 +50,12 @@ rest-tail s j r rs h = record { place = from-tail s.rules j r rs h.place }
 abbrev pub after_first : List Rule → List Rule
 after_first rs = take (length rs - 1) (drop 1 rs)
 
-pub rules-turn : (s : System) (l : Limits) (have : List Lemma) (j k : ℕ) (r : Rule) (rs : List Rule) (xs ys : List Candidate) → 1 ≤ length rs → r ≡ get_or rs 0 r → k ≡ suc j → ys ≡ map (turned s l have j r) xs → AreRest s j rs → (judged_by s l have k (after_first rs) ys ≡ judged_by s l have j rs xs) × AreRest s k (after_first rs)
-rules-turn s l have j k r [] xs ys many e n h a = absurd (omega arith)
-rules-turn s l have j k r (q ∷ rs) xs ys many e n h a =
+pub rules-turn : (s : System) (l : Limits) (have : List Lemma) (j k : ℕ) (r : Rule) (rs : List Rule) (xs ys : List Candidate) → 1 ≤ length rs → r ≡ get_or rs 0 r → k ≡ suc j → ys ≡ map (turned s l have j r) xs → AreRest s j rs → j + length rs ≡ length s.rules → (judged_by s l have k (after_first rs) ys ≡ judged_by s l have j rs xs) × AreRest s k (after_first rs) × (k + length (after_first rs) ≡ length s.rules)
+rules-turn s l have j k r [] xs ys many e n h a all = absurd (omega arith)
+rules-turn s l have j k r (q ∷ rs) xs ys many e n h a all =
     let m : length (q ∷ rs) - 1 ≡ length rs = omega arith in
-    rw (m, take-length rs, n, h, e) (refl, rest-tail s j q rs a)
+    let count : suc j + length rs ≡ length s.rules = omega arith in
+    rw (m, take-length rs, n, h, e) (refl, rest-tail s j q rs a, count)
 
 pub ruleset turns = (rest-start, rest-head)
 

@@ -77,6 +77,11 @@ named-later [] es i k h = absurd (cc)
 named-later (d ∷ ds) es i k h =
     either-later (nat_lt d.round i) (d.lemma == k) (is_named ds i k) (nat_lt d.round (suc i)) (is_named (ds ++ es) (suc i) k) (less-later d.round i) (named-later ds es i k) h
 
+-- where nothing is dropped all are left
+pub left-all : (i k : ℕ) (cs : List Lemma) → left_from [] i k cs ≡ cs
+left-all i k [] = refl
+left-all i k (c ∷ cs) = ap (λ (ds : List Lemma). c ∷ ds) (left-all i (suc k) cs)
+
 -- ---- how many are left
 
 -- what drops name in round i, others name in the round after it

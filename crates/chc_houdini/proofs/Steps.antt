@@ -22,7 +22,7 @@ use Rattle.chc_houdini.specs.Drops.{is_named, left_in, IsQuery, IsRefuted, IsDro
 use Rattle.chc_houdini.specs.Proofs.{AllAsked}
 use Rattle.chc_houdini.specs.Rounds.{no_round, round_of}
 use Rattle.chc_houdini.proofs.Below.{RightBelow, AllDropped}
-use Rattle.chc_houdini.proofs.Named.{AllOf, named-more, left-more, left-kept, named-there, named-later, fewer}
+use Rattle.chc_houdini.proofs.Named.{AllOf, named-more, left-more, left-kept, left-all, named-there, named-later, fewer}
 use Rattle.lists.proofs.Places.{from-start, less-or-same}
 use Rattle.chc_houdini.proofs.Stops.{IsShown, IsStop, IsDropped, stops_from, proofs_from, round-drops, round-proofs, proofs-asked, each-stop, stops-order, found}
 use Rattle.std.proofs.lemmas.List.{append-nil}
@@ -212,13 +212,14 @@ more-new s l candidates ds i d w there h = record {
   complete = step-complete s l candidates ds i w h;
 }
 
-pub right-more : (s : System) (l : Limits) (candidates : List Lemma) (ds : List RoundStop) (i : ℕ) → well_made s ≡ true → (length (this_round s l candidates ds i).drops == 0) ≡ false → RightBelow s l candidates ds i → RightBelow s l candidates (ds ++ (this_round s l candidates ds i).drops) (suc i)
+pub right-more : (s : System) (l : Limits) (candidates : List Lemma) (ds : List RoundStop) (i : ℕ) → well_made s ≡ true → (length (this_round s l candidates ds i).drops == 0) ≡ false → RightBelow s l candidates ds i → RightBelow s l candidates (ds ++ (this_round s l candidates ds i).drops) (i + 1)
 right-more s l candidates ds i w some h =
+    let n : i + 1 ≡ suc i = omega arith in
     let e = new-is s l candidates ds i in
     let d = some-of (new_drops s l candidates ds i) (ap (λ (es : List RoundStop). length es == 0) (sym e) ∙ some) in
-    subst (λ (es : List RoundStop). RightBelow s l candidates (ds ++ es) (suc i)) (sym e) (more-new s l candidates ds i d.0 w d.1 h)
+    rw n (subst (λ (es : List RoundStop). RightBelow s l candidates (ds ++ es) (suc i)) (sym e) (more-new s l candidates ds i d.0 w d.1 h))
 
-pub fewer-left : (s : System) (l : Limits) (candidates : List Lemma) (ds : List RoundStop) (i : ℕ) → (length (this_round s l candidates ds i).drops == 0) ≡ false → length (left_in (ds ++ (this_round s l candidates ds i).drops) candidates (suc i)) < length (left_in ds candidates i)
+fewer-left : (s : System) (l : Limits) (candidates : List Lemma) (ds : List RoundStop) (i : ℕ) → (length (this_round s l candidates ds i).drops == 0) ≡ false → length (left_in (ds ++ (this_round s l candidates ds i).drops) candidates (suc i)) < length (left_in ds candidates i)
 fewer-left s l candidates ds i some =
     let e = new-is s l candidates ds i in
     let es = new_drops s l candidates ds i in
@@ -230,6 +231,13 @@ fewer-left s l candidates ds i some =
     (fewer i 0 d.0.lemma ds (ds ++ es) candidates stop.candidate (λ k h. named-later ds es i k h) stop.place
     (ap (is_named ds i) n ∙ stop.there)
     (ap (is_named (ds ++ es) (suc i)) n ∙ named-there (ds ++ es) (suc i) d.0.lemma d.0 (Contains-append_right ds es d.0 d.1) round refl))
+
+pub fewer-next : (s : System) (l : Limits) (candidates : List Lemma) (ds : List RoundStop) (i : ℕ) → (length (this_round s l candidates ds i).drops == 0) ≡ false → length (left_in (ds ++ (this_round s l candidates ds i).drops) candidates (i + 1)) < length (left_in ds candidates i)
+fewer-next s l candidates ds i some = let n : i + 1 ≡ suc i = omega arith in rw n (fewer-left s l candidates ds i some)
+
+-- a round that goes on has a candidate left
+pub rounds-room : (s : System) (l : Limits) (candidates : List Lemma) (ds : List RoundStop) (i : ℕ) → (length (this_round s l candidates ds i).drops == 0) ≡ false → i + length (left_in ds candidates i) ≤ length candidates → length candidates < 4294967296 → i + 1 < 4294967296
+rounds-room s l candidates ds i some count few = let f = fewer-left s l candidates ds i some in omega arith
 
 pub right-last : (s : System) (l : Limits) (candidates : List Lemma) (ds : List RoundStop) (i : ℕ) → well_made s ≡ true → (length (this_round s l candidates ds i).drops == 0) ≡ true → RightBelow s l candidates ds i → RightDrops s l candidates ds i
 right-last s l candidates ds i w none h =
@@ -253,4 +261,7 @@ proofs-last s l candidates ds i none =
     let e : new_drops s l candidates ds i ≡ [] = sym (new-is s l candidates ds i) ∙ none-of (this_round s l candidates ds i).drops none in
     subst (AllAsked l (obligations s [] have)) (sym (proofs-are s l candidates ds i e)) (proofs-asked s l have ds i 0 candidates e 0)
 
-pub ruleset steps = (right-none, right-more, fewer-left, right-last, kept-last, proofs-last)
+pub none-counted : (candidates : List Lemma) → 0 + length (left_in [] candidates 0) ≤ length candidates
+none-counted candidates = let e : length (left_in [] candidates 0) ≡ length candidates = ap (length {A = Lemma}) (left-all 0 0 candidates) in omega arith
+
+pub ruleset steps = (right-none, right-more, fewer-next, rounds-room, right-last, kept-last, proofs-last, none-counted)

@@ -1,12 +1,12 @@
 // The lemmas that are kept, and the rounds that drop the others.
 
-ghost use Rattle.std.specs.Prelude.{◌≡◌, ◌++◌, [], true, suc, IfOk};
+ghost use Rattle.std.specs.Prelude.{◌≡◌, ◌<◌, ◌^◌, [], true, length, IfOk};
 ghost use Rattle.chc_form.specs.WellMade.{well_made};
 ghost use Rattle.chc_reduce.specs.Obligations.{obligations};
 ghost use Rattle.chc_houdini.specs.Drops.{RightDrops, kept};
 ghost use Rattle.chc_houdini.specs.Proofs.{AllAsked};
 
-use crate::rounds::{joined, lemmas_left, next, round_of};
+use crate::rounds::{joined, lemmas_left, round_of};
 use chc_ask::Open;
 use chc_form::{Lemma, Limits, System};
 use chc_nums::{List, NoMemory};
@@ -46,7 +46,7 @@ impl RoundStop {
 }
 
 /// The candidates that are left when in each round every candidate is dropped that the candidates of the round do not
-/// show at each rule's head (Houdini). `NoMemory` also stands for 2^32 candidates, and for what `chc_ask::ask` says.
+/// show at each rule's head (Houdini). `NoMemory` also stands for what `chc_ask::ask` says.
 #[tactic(auto, using(crate::proofs::Steps::steps))]
 pub fn greatest_of(
     alloc: Global,
@@ -54,7 +54,8 @@ pub fn greatest_of(
     from: List<Lemma>,
     limits: Limits,
 ) -> Result<Greatest, NoMemory>
-    requires { well_made s.now ≡ true }
+    requires made { well_made s.now ≡ true }
+    requires few { length from < 2 ^ 32 }
     ensures right { IfOk result (λ g. RightDrops s.now limits from g.drops g.rounds) }
     ensures kept { IfOk result (λ g. g.lemmas ≡ kept g.drops from) }
     ensures proofs { IfOk result (λ g. AllAsked limits (obligations s.now [] g.lemmas) g.proofs) }
@@ -81,6 +82,6 @@ pub fn greatest_of(
             });
         }
         drops = joined(drops, round.drops)?;
-        rounds = next(rounds)?;
+        rounds += 1;
     }
 }

@@ -1,7 +1,7 @@
 // One round over the candidates that are left. It goes rule by rule, so that what is the same for all candidates at a rule
 // is made once.
 
-ghost use Rattle.std.specs.Prelude.{◌≡◌, ◌==◌, ◌++◌, ℕ, List, true, suc, map, Some, slice_get, IfOk};
+ghost use Rattle.std.specs.Prelude.{◌≡◌, ◌<◌, ◌^◌, ◌==◌, ◌++◌, ℕ, List, true, length, map, Some, slice_get, IfOk};
 ghost use Rattle.chc_form.specs.declared.system.System.{System};
 ghost use Rattle.chc_form.specs.declared.lemma.Lemma.{Lemma};
 ghost use Rattle.chc_form.specs.WellMade.{well_made};
@@ -46,16 +46,6 @@ pub struct Round {
     pub proofs: List<List<i128>>,
 }
 
-// The number after.
-pub fn next(n: u32) -> Result<u32, NoMemory>
-    ensures { IfOk result (λ m. m ≡ suc n) }
-{
-    match n.checked_add(1) {
-        None => Err(NoMemory),
-        Some(m) => Ok(m),
-    }
-}
-
 // Entries, and further ones after them.
 pub fn joined<T: Drop>(list: List<T>, more: List<T>) -> Result<List<T>, NoMemory>
     ensures { IfOk result (λ all. all ≡ list ++ more) }
@@ -80,6 +70,7 @@ pub fn lemmas_left(
     round: u32,
     from: &[Lemma],
 ) -> Result<List<Lemma>, NoMemory>
+    requires { length from.now < 2 ^ 32 }
     ensures { IfOk result (λ list. list ≡ left_in drops.now from.now round) }
 {
     let mut left = List::new(alloc);
@@ -89,7 +80,7 @@ pub fn lemmas_left(
         if !is_named(drops, round, k) {
             left.push(lemma.copy(alloc)?)?;
         }
-        k = next(k)?;
+        k += 1;
         rest = more;
     }
     Ok(left)
@@ -102,6 +93,7 @@ fn candidates_in(
     round: u32,
     from: &[Lemma],
 ) -> Result<List<Candidate>, NoMemory>
+    requires { length from.now < 2 ^ 32 }
     ensures { IfOk result (λ list. list ≡ candidates_from drops.now round 0 from.now) }
 {
     let mut candidates = List::new(alloc);
@@ -115,7 +107,7 @@ fn candidates_in(
                 judged: Judged::Shown(List::new(alloc)),
             })?;
         }
-        number = next(number)?;
+        number += 1;
         rest = more;
     }
     Ok(candidates)
@@ -214,7 +206,7 @@ fn judged_at(
 }
 
 // All candidates asked at all rules.
-#[tactic(auto, using(crate::proofs::Judging::turns))]
+#[tactic(auto, using(crate::proofs::Judging::turns, chc_reduce::proofs::Few::numbers))]
 fn judged_by(
     alloc: Global,
     s: &System,
@@ -230,7 +222,7 @@ fn judged_by(
     let mut rest = s.rules.as_slice();
     while let [rule, more @ ..] = rest {
         candidates = judged_at(alloc, s, limits, have, j, rule, candidates)?;
-        j = next(j)?;
+        j += 1;
         rest = more;
     }
     Ok(candidates)
@@ -292,7 +284,8 @@ pub fn round_of(
     round: u32,
     from: &[Lemma],
 ) -> Result<Round, NoMemory>
-    requires { well_made s.now ≡ true }
+    requires made { well_made s.now ≡ true }
+    requires few { length from.now < 2 ^ 32 }
     ensures { IfOk result (λ r. r ≡ round_of s.now limits have.now earlier.now round from.now) }
 {
     let candidates = candidates_in(alloc, earlier, round, from)?;

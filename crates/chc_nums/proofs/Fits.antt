@@ -1,5 +1,5 @@
 -- Numbers of 128 bits.
-use Rattle.std.proofs.Common.{◌≡◌, ◌+ℤ◌, ◌*ℤ◌, ◌≤ℤ◌, ◌*◌, ◌-◌, ◌≤◌, ◌^◌, pos, neg_ℤ, suc, ℕ, Option, Some, None, arith, true, false, cond, refl, sym, subst, ◌⊎◌, inl, inr}
+use Rattle.std.proofs.Common.{◌≡◌, ◌+ℤ◌, ◌*ℤ◌, ◌≤ℤ◌, ◌-◌, ◌^◌, pos, neg_ℤ, suc, Option, Some, None, arith, true, false, cond, refl, sym, subst, ◌⊎◌, inl, inr}
 use lib.IntN.{ℤ, negsuc}
 use Rattle.std.specs.Prelude.{FitsSigned}
 use Rattle.std.specs.Int.{w128}
@@ -56,6 +56,13 @@ pub in_128-value : (z s : ℤ) → in_128 z ≡ Some s → s ≡ z
 unfolding in_128
 in_128-value z s e = grind (arith, nat_tests)
 
+pub in_128-fits : (z s : ℤ) → in_128 z ≡ Some s → FitsSigned w128 s
+in_128-fits z s e =
+    elim (in_128-cases z) [
+      | inl h ↦ subst (FitsSigned w128) (sym (in_128-value z s e)) h.1
+      | inr h ↦ absurd (cc (h.0, e))
+    ]
+
 -- a number between the bounds has 128 bits
 pub fits-between : (z : ℤ) → neg_ℤ (pos (2 ^ 127)) ≤ℤ z → z ≤ℤ pos (2 ^ 127 - 1) → FitsSigned w128 z
 fits-between (pos n) l h = record { sfits = omega (arith, ints, l, h) }
@@ -83,4 +90,9 @@ short-product (negsuc a) (negsuc b) f g =
 pub short-value : (a b : ℤ) → IsShort a → IsShort b → Some (a *ℤ b) ≡ in_128 (a *ℤ b)
 short-value a b f g = sym (in_128-yes (a *ℤ b) (short-product a b f g))
 
-pub ruleset products = (short-product, short-value)
+pub one-value : (a b : ℤ) → a ≡ pos 1 → FitsSigned w128 b → Some b ≡ in_128 (a *ℤ b)
+one-value a b e h =
+    let same : pos 1 *ℤ b ≡ b = omega (arith, ints) in
+    rw (e, same) (sym (in_128-yes b h))
+
+pub ruleset products = (short-product, short-value, one-value)

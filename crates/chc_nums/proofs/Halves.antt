@@ -1,6 +1,6 @@
 -- Numbers as so many times 2^64 and a rest.
-use Rattle.std.proofs.Common.{inl, inr, ◌≡◌, sym, arith, ◌-◌, ◌^◌}
-use Rattle.std.specs.Prelude.{pos, ◌+ℤ◌, ◌-ℤ◌, ◌*ℤ◌, ◌≤ℤ◌, neg_ℤ, Some, None, FitsSigned}
+use Rattle.std.proofs.Common.{inl, inr, ◌≡◌, arith, ◌-◌, ◌^◌}
+use Rattle.std.specs.Prelude.{pos, ◌+ℤ◌, ◌-ℤ◌, ◌*ℤ◌, ◌≤ℤ◌, neg_ℤ, None, FitsSigned}
 use Rattle.std.specs.Int.{int_div_euclid, int_rem_euclid, w128}
 use Rattle.std.proofs.lemmas.Int.{ints}
 use lib.IntN.{ℤ, negsuc}

@@ -4,3 +4,4 @@ pub mod Quotients
 pub mod Ranges
 pub mod Ring
 pub mod Halves
+pub mod Values

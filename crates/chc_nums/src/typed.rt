@@ -9,6 +9,7 @@ ghost use Rattle.chc_nums.specs.declared.typed.Num.TheVariants as num;
 ghost use Rattle.chc_nums.specs.Types.{IsType, least, greatest, judged, placed, IsSize, Truncated};
 
 use crate::wide::{difference, product, quotient, remainder, sum};
+use lists::Same;
 
 /// An elementary type of Solidity. The number is its size in bytes, from 1 to 12; an address has 12.
 #[derive(Clone, Copy, Debug, PartialEq, Eq)]
@@ -17,6 +18,12 @@ pub enum Ty {
     Uint(u8),
     Int(u8),
     Addr,
+}
+
+impl Same for Ty {
+    fn is_same(&self, other: &Ty) -> bool {
+        *self == *other
+    }
 }
 
 /// An operation of Solidity's arithmetic. A negation reads its first operand alone.

@@ -53,8 +53,10 @@ fn long_product(a: i128, b: i128) -> Option<i128>
 pub fn product(a: i128, b: i128) -> Option<i128>
     ensures { result ≡ in_128 (a *ℤ b) }
 {
-    // Most factors are short, and the test of a long product is slow.
-    if is_short(a) && is_short(b) {
+    // Many factors are 1 and most are short, and the test of a long product is slow.
+    if a == 1 {
+        Some(b)
+    } else if is_short(a) && is_short(b) {
         Some(short_product(a, b))
     } else {
         long_product(a, b)

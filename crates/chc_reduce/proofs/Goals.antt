@@ -22,7 +22,7 @@ use Rattle.chc_reduce.specs.Reduced.{lower, upper, ranges, at_most, refuted, con
 use Rattle.chc_reduce.specs.Rows.{joined, rows_of, is_plain, branch_of}
 use Rattle.chc_reduce.specs.Premises.{goal_part, ranges_part, premises_part, AreMadeOf, ArePremises, InOrder}
 use Rattle.chc_reduce.proofs.Shapes.{rows_of-And, is_plain-Le, is_plain-And, branch_of-Le, branch_of-And}
-use Rattle.chc_reduce.proofs.Sorts.{got_rule}
+use Rattle.chc_reduce.proofs.Sorts.{got_rule, few_rule}
 use Rattle.chc_reduce.proofs.Ordered.{and-ordered, ordered-append, ranges-ordered, constraints-ordered, instances-ordered}
 
 joined-append : {B : Type 0} (f : Formula → List B) (fs gs : List Formula) → joined (map f (fs ++ gs)) ≡ joined (map f fs) ++ joined (map f gs)
@@ -113,4 +113,4 @@ premises-ordered s i r ls g w e h = record {
 pub read-rule : (s : System) (i : ℕ) (r : Rule) → i < length s.rules → r ≡ slice_index_or s.rules i r → slice_get s.rules i ≡ Some r
 read-rule s i r h e = slice_get_read s.rules (length s.rules) i r refl h e
 
-pub ruleset premises = (premises-are, premises-ordered, read-rule, got_rule)
+pub ruleset premises = (premises-are, premises-ordered, read-rule, got_rule, few_rule)

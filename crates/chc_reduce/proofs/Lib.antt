@@ -8,3 +8,4 @@ pub mod Ordered
 pub mod Truthful
 pub mod Goals
 pub mod Bounds
+pub mod Few

@@ -1,5 +1,5 @@
 -- The sorts of variables in a well-made system, and turns of the loop over them.
-use Rattle.std.proofs.Common.{◌≡◌, sym, ℕ, ◌+◌, suc, List, [], ◌∷◌, ◌++◌, true, Some, slice_get, arith, append_assoc}
+use Rattle.std.proofs.Common.{◌≡◌, sym, ℕ, ◌+◌, ◌<◌, suc, List, [], ◌∷◌, ◌++◌, true, Some, length, slice_get, arith, append_assoc}
 use Rattle.std.specs.List.{list_all, Contains}
 use Rattle.std.proofs.lemmas.Bool.{and_parts}
 use Rattle.chc_nums.specs.declared.Ty.{Ty}
@@ -15,6 +15,7 @@ use Rattle.chc_form.specs.WellMade.{is_few, all_few, is_sized, is_sort, well_mad
 use Rattle.chc_form.proofs.Entries.{got-contained}
 use Rattle.chc_form.proofs.Passing.{first-sort, rest-sorts, rule-made, query-made}
 use Rattle.chc_reduce.specs.Reduced.{ranges}
+use Rattle.chc_reduce.proofs.Few.{rule-few, query-few}
 
 sized-type : (t : Ty) → is_sized t ≡ true → IsType t
 sized-type ty.Bool h = tt
@@ -51,4 +52,10 @@ got_rule s i r e h = rule-sorts s r h (got-contained s.rules i r (sym e))
 pub got_query : (s : System) (i : ℕ) (q : Query) → Some q ≡ slice_get s.queries i → well_made s ≡ true → list_all is_sort q.vars ≡ true
 got_query s i q e h = query-sorts s q h (got-contained s.queries i q (sym e))
 
-pub ruleset parts = (got_rule, got_query)
+pub few_rule : (s : System) (i : ℕ) (r : Rule) → Some r ≡ slice_get s.rules i → well_made s ≡ true → length r.vars < 2147483648
+few_rule s i r e h = rule-few s r h (got-contained s.rules i r (sym e))
+
+pub few_query : (s : System) (i : ℕ) (q : Query) → Some q ≡ slice_get s.queries i → well_made s ≡ true → length q.vars < 2147483648
+few_query s i q e h = query-few s q h (got-contained s.queries i q (sym e))
+
+pub ruleset parts = (got_rule, got_query, few_rule, few_query)

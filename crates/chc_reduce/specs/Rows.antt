@@ -1,11 +1,16 @@
--- The inequalities of a formula that one run of the tableau takes: those that stand outside every choice. An `Or` of one
--- alternative is that alternative; any other `Or` is a choice.
+-- The rows of a formula, in order: what stands in it outside every choice. An `Or` of one alternative is opened where it
+-- stands; any other `Or` is a choice, and what stands in it is left out.
 use Rattle.std.specs.Prelude.{ℕ, List, [], ◌∷◌, ◌++◌, Bool, true, false}
-use Rattle.std.specs.List.{list_all}
 use Rattle.chc_form.specs.declared.linear.Lin.{Lin}
 use Rattle.chc_form.specs.declared.formula.Formula.{Formula}
 use Rattle.chc_form.specs.declared.formula.Formula.TheOpen.{Formula-F}
 use Rattle.chc_form.specs.declared.formula.Formula.TheFolds.{fold-Formula}
+
+-- an inequality, an `Or` of one alternative, or a choice
+pub data Entry : Type 0 where
+  row : Lin → Entry
+  opened : Entry
+  choice : Entry
 
 -- lists one after another
 abbrev pub joined : {A : Type 0} → List (List A) → List A
@@ -18,29 +23,43 @@ only [] other f = other
 only (a ∷ []) other f = f a
 only (a ∷ b ∷ more) other f = other
 
-abbrev pub rows_step : Formula-F (List Lin) → List Lin
-rows_step (Formula-F.Le l) = l ∷ []
-rows_step (Formula-F.And rs) = joined rs
-rows_step (Formula-F.Or rs) = only rs [] (λ r. r)
+abbrev pub entries_step : Formula-F (List Entry) → List Entry
+entries_step (Formula-F.Le l) = row l ∷ []
+entries_step (Formula-F.And parts) = joined parts
+entries_step (Formula-F.Or parts) = only parts (choice ∷ []) (λ part. opened ∷ part)
 
--- the inequalities outside every choice, in order
+-- the list of the formula
+unfoldable pub entries_of : Formula → List Entry
+entries_of f = fold-Formula (List Entry) entries_step f
+
+-- ---- what is read off the list
+
+abbrev pub sums_in : List Entry → List Lin
+sums_in [] = []
+sums_in (row l ∷ es) = l ∷ sums_in es
+sums_in (opened ∷ es) = sums_in es
+sums_in (choice ∷ es) = sums_in es
+
+abbrev pub taken_in : List Entry → List ℕ
+taken_in [] = []
+taken_in (row l ∷ es) = taken_in es
+taken_in (opened ∷ es) = 0 ∷ taken_in es
+taken_in (choice ∷ es) = taken_in es
+
+abbrev pub has_no_choice : List Entry → Bool
+has_no_choice [] = true
+has_no_choice (row l ∷ es) = has_no_choice es
+has_no_choice (opened ∷ es) = has_no_choice es
+has_no_choice (choice ∷ es) = false
+
+-- the inequalities
 unfoldable pub rows_of : Formula → List Lin
-rows_of f = fold-Formula (List Lin) rows_step f
+rows_of f = sums_in (entries_of f)
 
-abbrev pub plain_step : Formula-F Bool → Bool
-plain_step (Formula-F.Le l) = true
-plain_step (Formula-F.And bs) = list_all (λ b. b) bs
-plain_step (Formula-F.Or bs) = only bs false (λ b. b)
-
--- whether the formula has no choice
-unfoldable pub is_plain : Formula → Bool
-is_plain f = fold-Formula Bool plain_step f
-
-abbrev pub branch_step : Formula-F (List ℕ) → List ℕ
-branch_step (Formula-F.Le l) = []
-branch_step (Formula-F.And bs) = joined bs
-branch_step (Formula-F.Or bs) = only bs [] (λ b. 0 ∷ b)
-
--- the alternative that is taken, number 0, at each `Or` of one alternative outside every choice
+-- the alternative that is taken, number 0, at each `Or` that is opened
 unfoldable pub branch_of : Formula → List ℕ
-branch_of f = fold-Formula (List ℕ) branch_step f
+branch_of f = taken_in (entries_of f)
+
+-- whether there is no choice
+unfoldable pub is_plain : Formula → Bool
+is_plain f = has_no_choice (entries_of f)

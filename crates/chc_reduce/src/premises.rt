@@ -1,6 +1,6 @@
 // A rule under lemmas, for many goals.
 
-ghost use Rattle.std.specs.Prelude.{◌≡◌, ◌<◌, ◌++◌, true, length, map, IfOk};
+ghost use Rattle.std.specs.Prelude.{◌≡◌, ◌<◌, ◌^◌, ◌++◌, true, length, map, IfOk};
 ghost use Rattle.std.specs.List.{list_all};
 ghost use Rattle.chc_form.specs.declared.formula.Formula.{And};
 ghost use Rattle.chc_form.specs.Linear.{lins};
@@ -10,7 +10,7 @@ ghost use Rattle.chc_reduce.specs.Rows.{rows_of};
 ghost use Rattle.chc_reduce.specs.Premises.{goal_part, AreMadeOf, ArePremises, InOrder};
 
 use crate::reduction::{add_goal, add_ranges, premises};
-use crate::shape::{branch, is_plain, rows};
+use crate::shape::{FormulaRows, formula_rows};
 use chc_form::{App, Formula, Lemma, Row, Rule, System};
 use chc_nums::{List, NoMemory};
 use sqlite_items::Items;
@@ -28,7 +28,7 @@ pub struct Premises {
 }
 
 impl Premises {
-    /// Those of a rule of a system, by its number. `NoMemory` also stands for 2^32 variables.
+    /// Those of a rule of a system, by its number.
     #[tactic(auto, using(crate::proofs::Goals::premises))]
     pub fn new(alloc: Global, s: &System, rule: u32, lemmas: &[Lemma]) -> Result<Premises, NoMemory>
         requires made { well_made s.now ≡ true }
@@ -42,7 +42,8 @@ impl Premises {
 }
 
 fn premises_of(alloc: Global, rule: &Rule, lemmas: &[Lemma]) -> Result<Premises, NoMemory>
-    requires { list_all is_sort rule.now.vars ≡ true }
+    requires sorts { list_all is_sort rule.now.vars ≡ true }
+    requires few { length rule.now.vars < 2 ^ 31 }
     ensures { IfOk result (λ g. AreMadeOf rule.now lemmas.now g) }
 {
     let before = range_rows(alloc, rule)?;
@@ -53,25 +54,32 @@ fn premises_of(alloc: Global, rule: &Rule, lemmas: &[Lemma]) -> Result<Premises,
         rule.body.as_slice(),
         lemmas,
     )?;
+    let FormulaRows {
+        rows,
+        branch,
+        plain,
+    } = formula_rows(alloc, &formula)?;
+    let args = rule.head.args.copy(alloc)?;
     Ok(Premises {
         head: App {
             pred: rule.head.pred,
-            args: rule.head.args.copy(alloc)?,
+            args,
         },
         before,
-        after: rows(alloc, &formula)?,
-        branch: branch(alloc, &formula)?,
-        plain: is_plain(&formula),
+        after: rows,
+        branch,
+        plain,
     })
 }
 
 fn range_rows(alloc: Global, rule: &Rule) -> Result<List<Row>, NoMemory>
-    requires { list_all is_sort rule.now.vars ≡ true }
+    requires sorts { list_all is_sort rule.now.vars ≡ true }
+    requires few { length rule.now.vars < 2 ^ 31 }
     ensures { IfOk result (λ made. lins made ≡ rows_of (And (ranges 0 rule.now.vars))) }
 {
     let mut parts = Items::new(alloc);
     add_ranges(alloc, rule.vars.as_slice(), &mut parts)?;
-    rows(alloc, &Formula::And(parts))
+    Ok(formula_rows(alloc, &Formula::And(parts))?.rows)
 }
 
 /// The rows of a goal at a head.
@@ -80,5 +88,5 @@ pub fn goal_rows(alloc: Global, head: &App, goal: &Lemma) -> Result<List<Row>, N
 {
     let mut parts = Items::new(alloc);
     add_goal(alloc, head, goal.lits.as_slice(), &mut parts)?;
-    rows(alloc, &Formula::And(parts))
+    Ok(formula_rows(alloc, &Formula::And(parts))?.rows)
 }

@@ -1,6 +1,6 @@
 // The formula that has to be refuted.
 
-ghost use Rattle.std.specs.Prelude.{◌≡◌, ◌+◌, ◌++◌, ◌∷◌, [], true, map, IfOk, OnOk, option_copied, neg_ℤ, if◌then◌else◌, ◌==◌};
+ghost use Rattle.std.specs.Prelude.{◌≡◌, ◌<◌, ◌^◌, ◌++◌, ◌∷◌, [], true, length, map, IfOk, OnOk, option_copied, neg_ℤ, if◌then◌else◌, ◌==◌};
 ghost use Rattle.std.specs.List.{list_all};
 ghost use Rattle.chc_nums.specs.Types.{IsType, greatest};
 ghost use Rattle.chc_form.specs.declared.formula.Formula.{And};
@@ -72,27 +72,18 @@ fn add_range(alloc: Global, x: u32, sort: &Sort, parts: &mut Items<Formula>) -> 
 
 #[tactic(auto, using(crate::proofs::Sorts::turns))]
 pub fn add_ranges(alloc: Global, sorts: &[Sort], parts: &mut Items<Formula>) -> Result<(), NoMemory>
-    requires { list_all is_sort sorts.now ≡ true }
+    requires sorts { list_all is_sort sorts.now ≡ true }
+    requires few { length sorts.now < 2 ^ 31 }
     ensures { OnOk result (parts.new ≡ parts.old ++ ranges 0 sorts.now) }
 {
     let mut x = 0;
     let mut rest = sorts;
     while let [sort, more @ ..] = rest {
         add_range(alloc, x, sort, parts)?;
-        x = following(x)?;
+        x += 1;
         rest = more;
     }
     Ok(())
-}
-
-// The number after this one.
-fn following(n: u32) -> Result<u32, NoMemory>
-    ensures { IfOk result (λ m. m ≡ n + 1) }
-{
-    match n.checked_add(1) {
-        Some(m) => Ok(m),
-        None => Err(NoMemory),
-    }
 }
 
 // ---- literals
@@ -244,7 +235,8 @@ fn reduce_rule(
     goal: Option<&Lemma>,
     lemmas: &[Lemma],
 ) -> Result<Formula, NoMemory>
-    requires { list_all is_sort rule.now.vars ≡ true }
+    requires sorts { list_all is_sort rule.now.vars ≡ true }
+    requires few { length rule.now.vars < 2 ^ 31 }
     ensures { IfOk result (λ f. f ≡ reduced_rule rule.now (option_copied goal.entry) lemmas.now) }
 {
     let mut parts = Items::new(alloc);
@@ -263,7 +255,8 @@ fn reduce_rule(
 
 #[tactic(auto, unfolding(crate::specs::Reduced::reduced_query))]
 fn reduce_query(alloc: Global, query: &Query, lemmas: &[Lemma]) -> Result<Formula, NoMemory>
-    requires { list_all is_sort query.now.vars ≡ true }
+    requires sorts { list_all is_sort query.now.vars ≡ true }
+    requires few { length query.now.vars < 2 ^ 31 }
     ensures { IfOk result (λ f. f ≡ reduced_query query.now lemmas.now) }
 {
     let mut parts = Items::new(alloc);
@@ -278,7 +271,7 @@ fn reduce_query(alloc: Global, query: &Query, lemmas: &[Lemma]) -> Result<Formul
 }
 
 /// The formula that has to be refuted, so that a lemma is true at a rule's head, or a query is refuted, under lemmas. A
-/// goal beside a query is not looked at. `NoMemory` also stands for 2^32 variables.
+/// goal beside a query is not looked at.
 #[tactic(auto, using(crate::proofs::Sorts::parts))]
 pub fn reduce(
     alloc: Global,

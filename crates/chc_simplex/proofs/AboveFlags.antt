@@ -7,7 +7,7 @@ use Rattle.chc_simplex.specs.declared.data.Line.{Line}
 use Rattle.chc_simplex.specs.declared.data.Simplex.{Simplex}
 use Rattle.chc_simplex.specs.Lines.{Tableau}
 use Rattle.chc_simplex.specs.Rounds.{is_above, first_above}
-use Rattle.chc_simplex.specs.Simplex.{above_flags_of, first_above as first_flag, AreAboveFlags}
+use Rattle.chc_simplex.specs.Simplex.{above_flags_of, first_above as first_flag, IsKept}
 
 flagged-then : (v : ℕ) (m : Option Bool) (a b : Option (Option ℕ)) → a ≡ b → with_value m (λ above. if above then Some (Some v) else a) ≡ with_value m (λ above. if above then Some (Some v) else b)
 flagged-then v m a b e = rw e refl
@@ -16,7 +16,7 @@ flagged-above : (n : ℕ) (bounds : List ℤ) (v : ℕ) (tab : Tableau) → firs
 flagged-above n bounds v [] = refl
 flagged-above n bounds v (o ∷ os) = flagged-then v (is_above n bounds v o) (first_flag (v + 1) (above_flags_of n bounds (v + 1) os)) (first_above n bounds (v + 1) os) (flagged-above n bounds (v + 1) os)
 
-pub first-is : (b : Simplex) → AreAboveFlags b → first_flag 0 b.above_flags ≡ first_above b.variables b.bounds 0 b.tableau
+pub first-is : (b : Simplex) → IsKept b → first_flag 0 b.above_flags ≡ first_above b.variables b.bounds 0 b.tableau
 first-is b h = ap (first_flag 0) h.above_flags ∙ flagged-above b.variables b.bounds 0 b.tableau
 
 above_flags-put : (n : ℕ) (bounds : List ℤ) (v i : ℕ) (tab : Tableau) (o : Option Line) → above_flags_of n bounds v (slice_set tab i o) ≡ slice_set (above_flags_of n bounds v tab) i (is_above n bounds (v + i) o)

@@ -17,7 +17,8 @@ use Rattle.chc_simplex.specs.Divisors.{gcd}
 use Rattle.chc_simplex.specs.Terms.{Terms}
 use Rattle.chc_simplex.specs.Lines.{line, common, divided_terms, divided_line, reduced}
 use Rattle.chc_simplex.proofs.Steps.{gcd-is}
-use Rattle.chc_simplex.proofs.Orders.{value-some, Within}
+use Rattle.chc_simplex.proofs.Orders.{Within}
+use Rattle.chc_nums.proofs.Values.{value-some}
 
 -- ---- cancelling
 

@@ -11,8 +11,10 @@ use Rattle.chc_form.specs.Linear.{sum_of, Ascend, AscendFrom, AllAscend}
 use Rattle.chc_simplex.specs.declared.data.Line.{Line}
 use Rattle.chc_simplex.specs.Terms.{Terms, coefficient}
 use Rattle.chc_simplex.specs.Lines.{Tableau, line, line_at, terms_of, denominator_of, turned, substituted, rewritten, exchanged, pivot}
-use Rattle.chc_simplex.specs.TableauRun.{terms_width, width, nonbasic, slack_lines, first_tableau}
-use Rattle.chc_simplex.proofs.Orders.{value-some, Within}
+use Rattle.chc_simplex.specs.TableauRun.{nonbasic, slack_lines, first_tableau}
+use Rattle.chc_form.specs.RowSums.{terms_width, width}
+use Rattle.chc_simplex.proofs.Orders.{Within}
+use Rattle.chc_nums.proofs.Values.{value-some}
 use Rattle.chc_simplex.proofs.Pivoting.{Turned, turned-is, Substituted, substituted-is, line_at-other, line_at-same, line_at-within, rewritten-all, rewritten-none, rewritten-line, rewritten-some}
 
 abbrev pub Nonbasic : ℕ → Tableau → ℕ → Type 0

@@ -4,6 +4,8 @@ pub mod Rewriting
 pub mod AboveFlags
 pub mod Turns
 pub mod Orders
+pub mod Ascending
+pub mod Lowest
 pub mod Division
 pub mod Pivoting
 pub mod Invariance
@@ -11,3 +13,4 @@ pub mod Scanning
 pub mod Refuting
 pub mod Pointing
 pub mod Soundness
+pub mod Summing

@@ -1,9 +1,7 @@
 -- The steps of a merge of two sums.
-use Rattle.std.proofs.Common.{◌≡◌, ◌∙◌, sym, ap, refl, ℕ, ◌<◌, ◌≤◌, [], ◌∷◌, ◌++◌, append_assoc, append-nil, Option, Some, None, true, false, arith, ◌*ℤ◌}
+use Rattle.std.proofs.Common.{◌≡◌, ◌∙◌, sym, ap, refl, ℕ, ◌<◌, ◌≤◌, [], ◌∷◌, ◌++◌, append_assoc, append-nil, Option, Some, None, arith, ◌*ℤ◌}
 use lib.IntN.{ℤ}
-use Rattle.std.proofs.lemmas.Bool.Decides.{nat_tests}
 use Rattle.std.proofs.lemmas.Int.{to_z-of_z}
-use Rattle.std.specs.Prelude.{nat_lt}
 use Rattle.chc_nums.specs.Wide.{in_128}
 use Rattle.chc_nums.specs.Values.{with_value}
 use Rattle.chc_simplex.specs.Outcomes.{joined}

@@ -1,30 +1,18 @@
 -- Terms in order, and what the steps of a pivot keep of them.
-use Rattle.std.proofs.Common.{◌≡◌, ◌≢◌, ◌∙◌, sym, ap, subst, refl, ℕ, suc, ◌<◌, ◌≤◌, [], ◌∷◌, ◌++◌, Option, Some, None, Bool, true, false, arith, pos, ◌+ℤ◌, ◌*ℤ◌, inl, inr, ◌⊎◌}
+use Rattle.std.proofs.Common.{◌≡◌, ◌≢◌, ◌∙◌, sym, ap, subst, refl, ℕ, suc, ◌<◌, ◌≤◌, [], ◌∷◌, ◌++◌, Option, Some, None, arith, pos, ◌+ℤ◌, ◌*ℤ◌, inl, inr}
 use lib.IntN.{ℤ}
 use Rattle.std.proofs.lemmas.Int.{ints}
-use Rattle.std.proofs.lemmas.Bool.Decides.{nat_tests}
 use Rattle.std.specs.Prelude.{nat_lt, ◌==◌}
 use Rattle.std.specs.Ordering.{int_eq}
 use Rattle.chc_nums.specs.Wide.{in_128}
 use Rattle.chc_nums.proofs.Fits.{in_128-value}
 use Rattle.chc_nums.proofs.Ring.{mul-add, add-mul, mul-assoc, mul-comm, zero-mul}
 use Rattle.chc_nums.specs.Values.{with_value}
+use Rattle.chc_nums.proofs.Values.{value-some, int_eq-true, int_eq-false}
 use Rattle.chc_form.specs.Linear.{sum_of}
 use Rattle.chc_simplex.specs.Terms.{Terms, coefficient, others, term, put_before, both, scaled, placed_term, merged}
 use Rattle.lists.proofs.Tests.{same-true, same-false, less-true, less-false, same-not}
 use Rattle.std.proofs.lemmas.Bool.{cases_Bool}
-
--- ---- cases
-
-pub value-some : {A B : Type 0} (o : Option A) (go : A → Option B) (z : B) → with_value o go ≡ Some z → (a : A) × (o ≡ Some a) × (go a ≡ Some z)
-value-some None go z h = absurd (cc)
-value-some (Some a) go z h = (a, refl, h)
-
-pub int_eq-true : (a : ℤ) → int_eq a (pos 0) ≡ true → a ≡ pos 0
-int_eq-true a h = grind (arith, ints)
-
-pub int_eq-false : (a : ℤ) → int_eq a (pos 0) ≡ false → a ≢ pos 0
-int_eq-false a h e = grind (arith, ints)
 
 -- ---- order
 
@@ -43,7 +31,7 @@ Within-map P Q k (t ∷ ts) f w = (w.0, w.1, f t.0 w.2, Within-map P Q (suc t.0)
 
 -- ---- one term in front
 
-put-some : (v : ℕ) (number : Option ℤ) (rest : Option Terms) (rs : Terms) → put_before v number rest ≡ Some rs → (a : ℤ) × (ts : Terms) × (number ≡ Some a) × (rest ≡ Some ts) × (term v a ++ ts ≡ rs)
+pub put-some : (v : ℕ) (number : Option ℤ) (rest : Option Terms) (rs : Terms) → put_before v number rest ≡ Some rs → (a : ℤ) × (ts : Terms) × (number ≡ Some a) × (rest ≡ Some ts) × (term v a ++ ts ≡ rs)
 put-some v None rest rs h = absurd (cc)
 put-some v (Some a) None rs h = absurd (cc)
 put-some v (Some a) (Some ts) rs h = (a, ts, refl, refl, cc)

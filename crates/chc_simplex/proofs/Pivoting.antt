@@ -9,13 +9,14 @@ use Rattle.std.proofs.lemmas.List.{get_or-set_same, get_or-set_other}
 use Rattle.std.proofs.lemmas.Option.{unwrap_or-slice_get}
 use Rattle.chc_nums.specs.Wide.{in_128}
 use Rattle.chc_nums.proofs.Fits.{in_128-value}
-use Rattle.chc_nums.proofs.Ring.{mul-add, add-mul, mul-assoc, mul-comm, zero-mul, minus-mul, neg-mul}
+use Rattle.chc_nums.proofs.Ring.{mul-add, mul-assoc, mul-comm, zero-mul, minus-mul, neg-mul}
 use Rattle.chc_nums.specs.Values.{with_value}
 use Rattle.chc_form.specs.Linear.{sum_of}
 use Rattle.chc_simplex.specs.declared.data.Line.{Line}
 use Rattle.chc_simplex.specs.Terms.{Terms, coefficient, others, merged}
 use Rattle.chc_simplex.specs.Lines.{Tableau, line, line_at, reduced, turned_up, turned_down, turned, with_entered, substituted, rewritten_line, rewritten}
-use Rattle.chc_simplex.proofs.Orders.{value-some, int_eq-true, Within, Within-map, merged-is, others-is, absent-is}
+use Rattle.chc_simplex.proofs.Orders.{Within, Within-map, merged-is, others-is, absent-is}
+use Rattle.chc_nums.proofs.Values.{value-some, int_eq-true}
 use Rattle.chc_simplex.proofs.Division.{above-product, cancel, Reduced, reduced-is}
 use Rattle.std.proofs.lemmas.Bool.{cases_Bool}
 

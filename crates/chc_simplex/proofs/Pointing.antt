@@ -18,12 +18,14 @@ use Rattle.chc_simplex.specs.declared.data.Lp.TheVariants as lp
 use Rattle.chc_simplex.specs.Divisors.{gcd}
 use Rattle.chc_simplex.specs.Terms.{Terms, sums_from}
 use Rattle.chc_simplex.specs.Lines.{Tableau, line_at, denominator_of}
-use Rattle.chc_simplex.specs.Rounds.{number_at, rest_at, first_above}
+use Rattle.chc_simplex.specs.Rounds.{rest_at, first_above}
+use Rattle.chc_form.specs.RowSums.{number_at, terms_width, width}
 use Rattle.chc_simplex.specs.Endings.{lowest, fraction, fractions, multiple, multiples, numerator, numerators, point_of, point}
-use Rattle.chc_simplex.specs.TableauRun.{terms_width, width, bounds_of}
+use Rattle.chc_simplex.specs.TableauRun.{bounds_of}
 use Rattle.chc_simplex.specs.Answers.{Answers}
 use Rattle.chc_simplex.proofs.Steps.{gcd-is}
-use Rattle.chc_simplex.proofs.Orders.{value-some, Within}
+use Rattle.chc_simplex.proofs.Orders.{Within}
+use Rattle.chc_nums.proofs.Values.{value-some}
 use Rattle.chc_simplex.proofs.Division.{above-product, cancel, cancel-le, exact, divisor-some, abs-some, quotient-above}
 use Rattle.chc_simplex.proofs.Invariance.{Nonbasic, Defines, Holds, Valid, Invariant}
 use Rattle.chc_simplex.proofs.Scanning.{sums-value, none-found}

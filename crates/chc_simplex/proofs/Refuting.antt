@@ -4,10 +4,9 @@ use lib.IntN.{ℤ, negsuc}
 use Rattle.std.specs.Prelude.{nat_lt, ◌==◌, if◌then◌else◌}
 use Rattle.std.proofs.lemmas.Int.{ints}
 use Rattle.std.proofs.lemmas.Bool.{cases_eq, cases_Bool}
-use Rattle.std.proofs.lemmas.Bool.Decides.{nat_tests}
 use Rattle.chc_nums.specs.Wide.{in_128}
 use Rattle.chc_nums.proofs.Fits.{in_128-value}
-use Rattle.chc_nums.proofs.Ring.{mul-add, add-mul, mul-assoc, mul-comm, zero-mul, minus-mul, neg-mul}
+use Rattle.chc_nums.proofs.Ring.{mul-add, mul-assoc, mul-comm, zero-mul, minus-mul, neg-mul}
 use Rattle.chc_nums.specs.Values.{with_value}
 use Rattle.chc_form.specs.declared.linear.Lin.{Lin}
 use Rattle.chc_form.specs.Linear.{sum_of}
@@ -18,11 +17,13 @@ use Rattle.chc_simplex.specs.declared.data.Lp.{Lp}
 use Rattle.chc_simplex.specs.declared.data.Lp.TheVariants as lp
 use Rattle.chc_simplex.specs.Terms.{Terms, coefficient}
 use Rattle.chc_simplex.specs.Lines.{Tableau, line_at, terms_of, denominator_of}
-use Rattle.chc_simplex.specs.Rounds.{number_at, rest_at, entering}
-use Rattle.chc_simplex.specs.Endings.{multiplier, multipliers, variable_sums, constant_sum, zeros, summed, refutation}
-use Rattle.chc_simplex.specs.TableauRun.{terms_width, width, bounds_of}
+use Rattle.chc_simplex.specs.Rounds.{rest_at, entering}
+use Rattle.chc_form.specs.RowSums.{number_at, variable_sums, constant_sum, zeros, terms_width, width}
+use Rattle.chc_simplex.specs.Endings.{multiplier, multipliers, summed, refutation}
+use Rattle.chc_simplex.specs.TableauRun.{bounds_of}
 use Rattle.chc_simplex.specs.Answers.{Answers}
-use Rattle.chc_simplex.proofs.Orders.{value-some, coefficient-past, Within}
+use Rattle.chc_simplex.proofs.Orders.{coefficient-past, Within}
+use Rattle.chc_nums.proofs.Values.{value-some}
 use Rattle.chc_simplex.proofs.Pivoting.{line_at-within}
 use Rattle.chc_simplex.proofs.Invariance.{Nonbasic, Defines, Invariant}
 use Rattle.chc_simplex.proofs.Scanning.{Found, Blocked, none-enters}

@@ -1,5 +1,7 @@
 -- Turns of the loop that puts a variable into each line, in place.
-use Rattle.std.proofs.Common.{◌≡◌, ◌∙◌, sym, ap, subst, refl, ℕ, suc, ◌+◌, ◌<◌, ◌≤◌, [], ◌∷◌, ◌++◌, Option, Some, None, slice_get, take, drop, length, arith, add-one}
+use Rattle.std.proofs.Common.{◌≡◌, ◌∙◌, sym, ap, subst, refl, ℕ, suc, ◌+◌, ◌<◌, ◌≤◌, [], ◌∷◌, ◌++◌, Option, Some, None, true, pos, slice_get, take, drop, length, arith, add-one}
+use lib.IntN.{ℤ}
+use Rattle.std.specs.Ordering.{int_eq}
 use Rattle.std.specs.Prelude.{slice_set}
 use Rattle.std.specs.Option.{unwrap_or}
 use Rattle.std.proofs.lemmas.List.{set-get_or, take_more_set, length-set, drop-set-lt, take_all}
@@ -9,7 +11,8 @@ use Rattle.std.proofs.Math.ListN.{drop_of_length-le}
 use Rattle.chc_nums.specs.Values.{with_value}
 use Rattle.chc_simplex.specs.declared.data.Line.{Line}
 use Rattle.chc_simplex.specs.Outcomes.{joined}
-use Rattle.chc_simplex.specs.Lines.{Tableau, line_at, rewritten_line, rewritten, rewritten_at}
+use Rattle.chc_simplex.specs.Terms.{coefficient}
+use Rattle.chc_simplex.specs.Lines.{Tableau, line_at, terms_of, rewritten_line, rewritten, rewritten_at}
 use Rattle.chc_simplex.proofs.Steps.{joined-nil, joined-more, joined-all}
 
 -- ---- a line that stays
@@ -73,6 +76,21 @@ unfolding rewritten_at
 turn-next e entered tab new v whole q h i =
     after e entered tab new v (rewritten_line e entered (line_at tab v)) h q ∙ sym (from-next e entered tab v h) ∙ i
 
+zero-is : (s : ℤ) → s ≡ pos 0 → int_eq s (pos 0) ≡ true
+zero-is s h = rw h refl
+
+-- a line without e stays as it is
+stays : (e : ℕ) (entered : Line) (tab : Tableau) (v : ℕ) → coefficient (terms_of (line_at tab v)) e ≡ pos 0 → rewritten_at e entered tab v ≡ Some tab
+unfolding rewritten_at
+stays e entered tab v h =
+    elim (line_at tab v) as (λ o. line_at tab v ≡ o → coefficient (terms_of o) e ≡ pos 0 → with_value (rewritten_line e entered o) (λ p. Some (slice_set tab v p)) ≡ Some tab) [
+      | None ↦ λ q z. ap Some (kept-as tab v None q)
+      | Some l ↦ λ q z. let c : int_eq (coefficient l.terms e) (pos 0) ≡ true = zero-is (coefficient l.terms e) z in rw c (ap Some (kept-as tab v (Some l) q))
+    ] refl h
+
+pub turn-kept : (e : ℕ) (entered : Line) (tab : Tableau) (v : ℕ) (whole : Option Tableau) → coefficient (terms_of (line_at tab v)) e ≡ pos 0 → v < length tab → rewritten_from e entered tab v ≡ whole → rewritten_from e entered tab (v + 1) ≡ whole
+turn-kept e entered tab v whole z h i = turn-next e entered tab tab v whole (stays e entered tab v z) h i
+
 none-by : (made : Tableau) (rest : Option Tableau) (put : Option Line → Tableau) (r : Option (Option Line)) → with_value r (λ p. Some (put p)) ≡ None → with_value r (λ p. joined (made ++ p ∷ []) rest) ≡ None
 none-by made rest put None q = refl
 none-by made rest put (Some p) q = absurd (cc)
@@ -91,4 +109,4 @@ pub turn-length : (e : ℕ) (entered : Line) (tab new : Tableau) (v : ℕ) → r
 unfolding rewritten_at
 turn-length e entered tab new v q = length-by tab new v (rewritten_line e entered (line_at tab v)) q
 
-pub ruleset turns = (from-start, turn-next, turn-none, turn-length)
+pub ruleset turns = (from-start, turn-next, turn-kept, turn-none, turn-length)

@@ -13,15 +13,10 @@ use Rattle.chc_simplex.specs.declared.data.Line.{Line}
 use Rattle.chc_simplex.specs.Terms.{Terms, coefficient, sums_from}
 use Rattle.chc_simplex.specs.Lines.{Tableau, line_at}
 use Rattle.chc_simplex.specs.Rounds.{rest_at, line_above, is_above, first_above, is_suitable, entering}
-use Rattle.chc_simplex.proofs.Orders.{value-some, Within}
+use Rattle.chc_simplex.proofs.Orders.{Within}
+use Rattle.chc_nums.proofs.Values.{value-some, add_product-value}
 use Rattle.lists.proofs.Tests.{less-true, less-false, same-not, same-is}
 use Rattle.std.proofs.lemmas.Bool.{cases_Bool}
-
--- a computed number is the true one
-pub add_product-value : (s a b t : ℤ) → add_product s a b ≡ Some t → t ≡ s +ℤ (a *ℤ b)
-add_product-value s a b t h =
-    let p = value-some (in_128 (a *ℤ b)) (λ p. in_128 (s +ℤ p)) t h in
-    omega (arith, ints, in_128-value (a *ℤ b) p.0 p.1, in_128-value (s +ℤ p.0) t p.2)
 
 pub sums-value : (s : ℤ) (ts : Terms) (x : ℕ → ℤ) (v : ℤ) → sums_from s ts x ≡ Some v → v ≡ s +ℤ sum_of ts x
 sums-value s [] x v h = let e : s ≡ v = cc in omega (arith, ints, e)

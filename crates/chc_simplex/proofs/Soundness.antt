@@ -9,9 +9,10 @@ use Rattle.chc_simplex.specs.declared.data.Lp.{Lp}
 use Rattle.chc_simplex.specs.declared.data.Lp.TheVariants as lp
 use Rattle.chc_simplex.specs.Lines.{Tableau, line_at, terms_of, pivot}
 use Rattle.chc_simplex.specs.Rounds.{first_above, entering, leaves_for, step_of, next_step}
-use Rattle.chc_simplex.specs.TableauRun.{width, bounds_of, first_tableau, followed, run_from, or_wide, whole_run, tableau_run}
+use Rattle.chc_simplex.specs.TableauRun.{bounds_of, first_tableau, followed, run_from, or_wide, whole_run, tableau_run}
+use Rattle.chc_form.specs.RowSums.{width}
 use Rattle.chc_simplex.specs.Answers.{Answers}
-use Rattle.chc_simplex.proofs.Orders.{value-some}
+use Rattle.chc_nums.proofs.Values.{value-some}
 use Rattle.chc_simplex.proofs.Invariance.{Nonbasic, Invariant, pivot-keeps, first-invariant}
 use Rattle.chc_simplex.proofs.Scanning.{Found, first-found, one-enters}
 use Rattle.chc_simplex.proofs.Refuting.{refutation-answers}

@@ -17,7 +17,6 @@ use Rattle.chc_simplex.specs.Divisors.{gcd, gcd_in}
 use Rattle.chc_simplex.specs.Terms.{Terms}
 use Rattle.chc_simplex.specs.Lines.{Tableau, common}
 use Rattle.chc_simplex.specs.TableauRun.{nonbasic}
-use Rattle.chc_simplex.specs.Endings.{zeros}
 
 -- ---- one item more at the end
 
@@ -39,15 +38,11 @@ pub ruleset joins = (joined-nil, joined-more, joined-all)
 
 -- ---- repeated items
 
-pub zeros-more : (n : ℕ) → zeros n ++ pos 0 ∷ [] ≡ zeros (n + 1)
-zeros-more zero = refl
-zeros-more (suc n) = let e : suc n + 1 ≡ suc (n + 1) = omega arith in rw e (ap (λ (xs : List ℤ). pos 0 ∷ xs) (zeros-more n))
-
 pub nonbasic-more : (n : ℕ) → nonbasic n ++ None ∷ [] ≡ nonbasic (n + 1)
 nonbasic-more zero = refl
 nonbasic-more (suc n) = let e : suc n + 1 ≡ suc (n + 1) = omega arith in rw e (ap (λ (xs : Tableau). None ∷ xs) (nonbasic-more n))
 
-pub ruleset repeats = (zeros-more, nonbasic-more)
+pub ruleset repeats = (nonbasic-more)
 
 -- ---- the greatest common divisor
 
@@ -93,7 +88,7 @@ pub quotient-is : (a b : ℤ) → (b ≡ pos 0 → ⊥) → divided a b (int_div
 unfolding divided in_128
 quotient-is a b h = rw (int_eq-false b h) refl
 
-quotient-one : (a : ℤ) → int_div a (pos 1) ≡ a
+pub quotient-one : (a : ℤ) → int_div a (pos 1) ≡ a
 quotient-one (pos a) = ap pos (div-one a)
 quotient-one (negsuc a) = omega (arith, ints, div-one (suc a))
 

@@ -7,7 +7,8 @@ use Rattle.chc_simplex.specs.declared.data.Step.TheVariants as step
 use Rattle.chc_simplex.specs.Lines.{Tableau, pivot}
 use Rattle.chc_simplex.specs.Rounds.{next_step}
 use Rattle.chc_simplex.specs.Endings.{point, refutation}
-use Rattle.chc_simplex.specs.TableauRun.{width, run_from}
+use Rattle.chc_simplex.specs.TableauRun.{run_from}
+use Rattle.chc_form.specs.RowSums.{width}
 
 pub round-wide : (rows : List Lin) (bounds : List ℤ) (k : ℕ) (tab : Tableau) → next_step (width rows) bounds tab ≡ None → run_from rows bounds k tab ≡ None
 unfolding run_from

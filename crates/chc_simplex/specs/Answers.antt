@@ -6,8 +6,7 @@ use Rattle.chc_form.specs.Linear.{FracSatisfies}
 use Rattle.chc_form.specs.Multipliers.{Refutes}
 use Rattle.chc_simplex.specs.declared.data.Lp.{Lp}
 use Rattle.chc_simplex.specs.declared.data.Lp.TheVariants as lp
-use Rattle.chc_simplex.specs.Rounds.{number_at}
-use Rattle.chc_simplex.specs.TableauRun.{width}
+use Rattle.chc_form.specs.RowSums.{number_at, width}
 
 -- numerators x over d, one for each variable, that satisfy the rows
 pub record IsPoint (rows : List Lin) (x : List ℤ) (d : ℤ) : Type 0 where

@@ -1,8 +1,8 @@
 -- How a run ends: a point over one denominator, or multipliers and their sums.
 -- Of a point, only the values, the least common multiples and the numerators over them can leave 128 bits.
-use Rattle.std.specs.Prelude.{ℕ, zero, suc, ◌+◌, ◌==◌, nat_lt, List, [], ◌∷◌, Option, Some, None, pos, ◌*ℤ◌, neg_ℤ, int_div, unsigned_abs, if◌then◌else◌, slice_set}
+use Rattle.std.specs.Prelude.{ℕ, ◌+◌, ◌==◌, nat_lt, List, [], ◌∷◌, Option, Some, None, pos, ◌*ℤ◌, neg_ℤ, int_div, unsigned_abs, if◌then◌else◌}
 use lib.IntN.{ℤ}
-use Rattle.chc_nums.specs.Wide.{in_128, add_product}
+use Rattle.chc_nums.specs.Wide.{in_128}
 use Rattle.chc_nums.specs.Values.{with_value}
 use Rattle.chc_form.specs.declared.linear.Lin.{Lin}
 use Rattle.chc_simplex.specs.declared.data.Line.{Line}
@@ -11,7 +11,8 @@ use Rattle.chc_simplex.specs.declared.data.Lp.TheVariants as lp
 use Rattle.chc_simplex.specs.Divisors.{gcd}
 use Rattle.chc_simplex.specs.Terms.{Terms, coefficient, sums_from}
 use Rattle.chc_simplex.specs.Lines.{Tableau, line_at, terms_of, denominator_of}
-use Rattle.chc_simplex.specs.Rounds.{number_at, rest_at}
+use Rattle.chc_form.specs.RowSums.{variable_sums, constant_sum, zeros}
+use Rattle.chc_simplex.specs.Rounds.{rest_at}
 
 -- ---- a point
 
@@ -65,31 +66,6 @@ multiplier s d ts v = if v == s then Some d else in_128 (neg_ℤ (coefficient ts
 abbrev pub multipliers : ℕ → ℤ → Terms → ℕ → List Lin → Option (List ℤ)
 multipliers s d ts v [] = Some []
 multipliers s d ts v (r ∷ rs) = with_value (multiplier s d ts v) (λ m. with_value (multipliers s d ts (v + 1) rs) (λ ms. Some (m ∷ ms)))
-
--- the sums of the variables, with one term times m
-abbrev pub with_term : ℤ → (ℕ × ℤ) → List ℤ → Option (List ℤ)
-with_term m t sums = with_value (add_product (number_at sums t.0) m t.1) (λ s. Some (slice_set sums t.0 s))
-
--- the sums of the variables, with a row's terms times m
-abbrev pub with_row : ℤ → Terms → List ℤ → Option (List ℤ)
-with_row m [] sums = Some sums
-with_row m (t ∷ ts) sums = with_value (with_term m t sums) (with_row m ts)
-
--- the sums of the variables over the rows, each row times its multiplier
-abbrev pub variable_sums : List ℤ → List Lin → List ℤ → Option (List ℤ)
-variable_sums [] rs sums = Some sums
-variable_sums (m ∷ ms) [] sums = Some sums
-variable_sums (m ∷ ms) (r ∷ rs) sums = with_value (with_row m r.terms sums) (variable_sums ms rs)
-
--- the sum of the constants
-abbrev pub constant_sum : ℤ → List ℤ → List Lin → Option ℤ
-constant_sum s [] rs = Some s
-constant_sum s (m ∷ ms) [] = Some s
-constant_sum s (m ∷ ms) (r ∷ rs) = with_value (add_product s m r.konst) (λ t. constant_sum t ms rs)
-
-abbrev pub zeros : ℕ → List ℤ
-zeros zero = []
-zeros (suc n) = pos 0 ∷ zeros n
 
 -- multipliers, once their sums are taken
 abbrev pub summed : ℕ → List Lin → List ℤ → Option Lp

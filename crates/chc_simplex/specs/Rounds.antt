@@ -1,5 +1,5 @@
 -- What a round finds: the slack that leaves and the variable that enters.
-use Rattle.std.specs.Prelude.{ℕ, ◌+◌, ◌-◌, nat_lt, Bool, false, not, ◌&&◌, ◌||◌, List, [], ◌∷◌, Option, Some, None, pos, ◌*ℤ◌, if◌then◌else◌, slice_get, unwrap_or}
+use Rattle.std.specs.Prelude.{ℕ, ◌+◌, ◌-◌, nat_lt, Bool, false, not, ◌&&◌, ◌||◌, List, [], ◌∷◌, Option, Some, None, pos, ◌*ℤ◌, if◌then◌else◌}
 use lib.IntN.{ℤ}
 use lib.Signed.{lt_z}
 use Rattle.std.specs.Ordering.{int_eq}
@@ -8,12 +8,9 @@ use Rattle.chc_nums.specs.Values.{with_value}
 use Rattle.chc_simplex.specs.declared.data.Line.{Line}
 use Rattle.chc_simplex.specs.declared.data.Step.{Step}
 use Rattle.chc_simplex.specs.declared.data.Step.TheVariants as step
+pub use Rattle.chc_form.specs.RowSums.{number_at}
 use Rattle.chc_simplex.specs.Terms.{Terms, sums_from}
 use Rattle.chc_simplex.specs.Lines.{Tableau, line_at, terms_of}
-
--- an entry of a list of numbers, 0 past its end
-abbrev pub number_at : List ℤ → ℕ → ℤ
-number_at xs i = unwrap_or (slice_get xs i) (pos 0)
 
 -- the value at which a nonbasic variable rests: 0 for each of the n first, and a slack's bound for the others
 abbrev pub rest_at : ℕ → List ℤ → ℕ → ℤ

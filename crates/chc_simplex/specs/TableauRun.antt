@@ -3,7 +3,7 @@
 -- of the row's constant as its bound. At first the variables are nonbasic at 0 and the slacks basic. In each round the
 -- least-numbered basic slack above its bound leaves, and rests at it from then on, and the least-numbered suitable
 -- variable of its line enters. A number that leaves 128 bits ends the run as `Wide`.
-use Rattle.std.specs.Prelude.{ℕ, zero, suc, ◌+◌, ◌++◌, max, List, [], ◌∷◌, Option, Some, None, pos, neg_ℤ}
+use Rattle.std.specs.Prelude.{ℕ, zero, suc, ◌++◌, List, [], ◌∷◌, Option, Some, None, pos, neg_ℤ}
 use lib.IntN.{ℤ}
 use Rattle.chc_nums.specs.Wide.{in_128}
 use Rattle.chc_nums.specs.Values.{with_value}
@@ -12,19 +12,10 @@ use Rattle.chc_simplex.specs.declared.data.Step.{Step}
 use Rattle.chc_simplex.specs.declared.data.Step.TheVariants as step
 use Rattle.chc_simplex.specs.declared.data.Lp.{Lp}
 use Rattle.chc_simplex.specs.declared.data.Lp.TheVariants as lp
-use Rattle.chc_simplex.specs.Terms.{Terms}
+use Rattle.chc_form.specs.RowSums.{width}
 use Rattle.chc_simplex.specs.Lines.{Tableau, line, pivot}
 use Rattle.chc_simplex.specs.Rounds.{next_step}
 use Rattle.chc_simplex.specs.Endings.{point, refutation}
-
--- one more than the greatest variable, 0 where there is none
-abbrev pub terms_width : Terms → ℕ
-terms_width [] = 0
-terms_width (t ∷ ts) = max (t.0 + 1) (terms_width ts)
-
-abbrev pub width : List Lin → ℕ
-width [] = 0
-width (r ∷ rs) = max (terms_width r.terms) (width rs)
 
 -- the bounds of the slacks
 abbrev pub bounds_of : List Lin → Option (List ℤ)

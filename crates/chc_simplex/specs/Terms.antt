@@ -1,5 +1,6 @@
 -- Sums of products of variables that ascend: a term is a variable's number and its coefficient.
-use Rattle.std.specs.Prelude.{ℕ, ◌==◌, nat_lt, List, [], ◌∷◌, ◌++◌, Option, Some, pos, ◌+ℤ◌, ◌*ℤ◌, if◌then◌else◌}
+use Rattle.std.specs.Prelude.{ℕ, suc, ◌≤◌, ◌==◌, nat_lt, List, [], ◌∷◌, ◌++◌, Option, Some, pos, ◌+ℤ◌, ◌*ℤ◌, if◌then◌else◌, FitsSigned}
+use Rattle.std.specs.Int.{w128}
 use lib.IntN.{ℤ}
 use Rattle.std.specs.Ordering.{int_eq}
 use Rattle.chc_nums.specs.Wide.{in_128, add_product}
@@ -8,6 +9,16 @@ use Rattle.chc_simplex.specs.Outcomes.{joined}
 
 abbrev pub Terms : Type 0
 Terms = List (ℕ × ℤ)
+
+-- variables ascend, from k on
+abbrev pub Ascends : ℕ → Terms → Type 0
+Ascends k [] = Unit {0}
+Ascends k (t ∷ ts) = (k ≤ t.0) × Ascends (suc t.0) ts
+
+-- each coefficient has 128 bits
+abbrev pub AllFit : Terms → Type 0
+AllFit [] = Unit {0}
+AllFit (t ∷ ts) = FitsSigned w128 t.1 × AllFit ts
 
 -- the coefficient of a variable, 0 where it doesn't stand in the sum
 abbrev pub coefficient : Terms → ℕ → ℤ

@@ -1,17 +1,17 @@
 // How a run ends: a point over one denominator, or multipliers and their sums.
 
-ghost use Rattle.std.specs.Prelude.{◌≡◌, ◌+◌, ◌<◌, ◌≤◌, ◌^◌, length, pos, slice_set, Some};
+ghost use Rattle.std.specs.Prelude.{◌≡◌, ◌+◌, ◌<◌, ◌≤◌, ◌^◌, length, pos};
 ghost use Rattle.chc_simplex.specs.Outcomes.{Gives};
 ghost use Rattle.chc_form.specs.Linear.{lins};
-ghost use Rattle.chc_simplex.specs.Endings.{fraction, fractions, multiples, numerator, numerators, point_of, point, multiplier, multipliers, with_term, with_row, variable_sums, constant_sum, zeros, summed, refutation};
+ghost use Rattle.chc_simplex.specs.Endings.{fraction, fractions, multiples, numerator, numerators, point_of, point, multiplier, multipliers, summed, refutation};
 
 use crate::data::{Line, Lp, Stop};
 use crate::lines::{denominator_at, terms_at};
 use crate::numbers::{lowest, multiple, quotient};
-use crate::rounds::{number_at, value_of};
+use crate::rounds::value_of;
 use crate::terms::coefficient;
-use chc_form::Row;
-use chc_nums::{List, add_product, opposite, product};
+use chc_form::{Row, constant_sum, variable_sums, zeros};
+use chc_nums::{List, opposite, product};
 use std::alloc::Global;
 
 // The value of a variable: 0 where it is nonbasic.
@@ -161,96 +161,6 @@ fn multipliers(
     Ok(made)
 }
 
-// Puts a sum at a place; past the end nothing changes.
-fn put(sums: &mut List<i128>, variable: usize, sum: i128)
-    ensures { sums.new ≡ slice_set sums.old variable sum }
-{
-    if variable < sums.len() {
-        sums.set(variable, sum);
-    }
-}
-
-// The sums with one term, times its multiplier.
-fn with_term(
-    multiplier: i128,
-    variable: usize,
-    a: i128,
-    sums: List<i128>,
-) -> Result<List<i128>, Stop>
-    ensures { Gives result (with_term multiplier (variable, a) sums) }
-{
-    let mut sums = sums;
-    let Some(sum) = add_product(number_at(sums.as_slice(), variable), multiplier, a) else {
-        return Err(Stop::Wide);
-    };
-    put(&mut sums, variable, sum);
-    Ok(sums)
-}
-
-// The sums with a row's terms, each times its multiplier.
-fn with_row(multiplier: &i128, terms: &[(u32, i128)], sums: List<i128>) -> Result<List<i128>, Stop>
-    ensures { Gives result (with_row multiplier.now terms.now sums) }
-{
-    let mut sums = sums;
-    let mut rest = terms;
-    while let [(v, a), more @ ..] = rest {
-        sums = with_term(*multiplier, *v as usize, *a, sums)?;
-        rest = more;
-    }
-    Ok(sums)
-}
-
-// The sums of the variables over the rows, each row times its multiplier.
-fn variable_sums(multipliers: &[i128], rows: &[Row], sums: List<i128>) -> Result<List<i128>, Stop>
-    ensures { Gives result (variable_sums multipliers.now (lins rows.now) sums) }
-{
-    let mut sums = sums;
-    let mut ms = multipliers;
-    let mut rs = rows;
-    while let [m, more_ms @ ..] = ms {
-        match rs {
-            [] => return Ok(sums),
-            [row, more_rs @ ..] => {
-                sums = with_row(m, row.lin.terms.as_slice(), sums)?;
-                ms = more_ms;
-                rs = more_rs;
-            }
-        }
-    }
-    Ok(sums)
-}
-
-// The sum of the constants, each times its row's multiplier.
-fn constant_sum(multipliers: &[i128], rows: &[Row]) -> Option<i128>
-    ensures { result ≡ constant_sum (pos 0) multipliers.now (lins rows.now) }
-{
-    let mut so_far = 0;
-    let mut ms = multipliers;
-    let mut rs = rows;
-    while let [m, more_ms @ ..] = ms {
-        match rs {
-            [] => return Some(so_far),
-            [row, more_rs @ ..] => {
-                so_far = add_product(so_far, *m, row.lin.konst)?;
-                ms = more_ms;
-                rs = more_rs;
-            }
-        }
-    }
-    Some(so_far)
-}
-
-#[tactic(auto, using(crate::proofs::Steps::repeats))]
-fn zeros(alloc: Global, count: usize) -> Result<List<i128>, Stop>
-    ensures { Gives result (Some (zeros count)) }
-{
-    let mut made = List::new(alloc);
-    for _at in 0..count {
-        made.push(0)?;
-    }
-    Ok(made)
-}
-
 // Multipliers, once their sums are taken.
 fn summed(
     alloc: Global,
@@ -261,7 +171,9 @@ fn summed(
     ensures { Gives result (summed variables (lins rows.now) multipliers) }
 {
     let none = zeros(alloc, variables)?;
-    let _sums = variable_sums(multipliers.as_slice(), rows, none)?;
+    let Some(_sums) = variable_sums(multipliers.as_slice(), rows, none) else {
+        return Err(Stop::Wide);
+    };
     match constant_sum(multipliers.as_slice(), rows) {
         Some(_) => Ok(Lp::Infeasible(multipliers)),
         None => Err(Stop::Wide),

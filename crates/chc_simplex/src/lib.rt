@@ -5,6 +5,7 @@
 
 mod data;
 mod endings;
+mod laws;
 mod lines;
 mod numbers;
 mod rounds;
@@ -14,4 +15,5 @@ mod terms;
 
 pub use chc_form::Row;
 pub use data::Lp;
+pub use laws::sums_law;
 pub use run::solve;

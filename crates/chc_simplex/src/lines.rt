@@ -2,7 +2,7 @@
 
 ghost use Rattle.std.specs.Prelude.{◌≡◌, unsigned_abs};
 ghost use Rattle.chc_simplex.specs.Outcomes.{Gives};
-ghost use Rattle.chc_simplex.specs.Terms.{others};
+ghost use Rattle.chc_simplex.specs.Terms.{Ascends, AllFit, others};
 ghost use Rattle.chc_simplex.specs.Lines.{line_at, terms_of, denominator_of, common, divided_terms, divided_line, reduced, turned_up, turned_down, turned, with_entered};
 
 use crate::data::{Line, Stop};
@@ -87,12 +87,18 @@ fn divided_line(
     Ok(Line { denominator, terms })
 }
 
-// A line in lowest terms.
-fn reduced(alloc: Global, denominator: i128, terms: &[(usize, i128)]) -> Result<Line, Stop>
-    ensures { Gives result (reduced denominator terms.now) }
+// A line in lowest terms. Most are there already, and keep their terms.
+#[tactic(auto, using(crate::proofs::Lowest::lowest))]
+fn reduced(alloc: Global, denominator: i128, terms: List<(usize, i128)>) -> Result<Line, Stop>
+    requires { AllFit terms }
+    ensures { Gives result (reduced denominator terms) }
 {
-    match signed(common(denominator.unsigned_abs(), terms)) {
-        Some(divisor) => divided_line(alloc, denominator, terms, divisor),
+    let divisor = common(denominator.unsigned_abs(), terms.as_slice());
+    if divisor == 1 {
+        return Ok(Line { denominator, terms });
+    }
+    match signed(divisor) {
+        Some(divisor) => divided_line(alloc, denominator, terms.as_slice(), divisor),
         None => Err(Stop::Wide),
     }
 }
@@ -171,6 +177,7 @@ pub fn turned(
 }
 
 /// A line with the entering variable, whose coefficient is given, put in.
+#[tactic(auto, using(crate::proofs::Ascending::lines))]
 pub fn with_entered(
     alloc: Global,
     entering: usize,
@@ -178,6 +185,8 @@ pub fn with_entered(
     a: i128,
     line: &Line,
 ) -> Result<Line, Stop>
+    requires entered { Ascends 0 entered.now.terms }
+    requires line { Ascends 0 line.now.terms }
     ensures { Gives result (with_entered entering entered.now a line.now) }
 {
     let Some(denominator) = product(entered.denominator, line.denominator) else {
@@ -193,5 +202,5 @@ pub fn with_entered(
         line.terms.as_slice(),
         entered.terms.as_slice(),
     )?;
-    reduced(alloc, denominator, terms.as_slice())
+    reduced(alloc, denominator, terms)
 }

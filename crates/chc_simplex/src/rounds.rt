@@ -2,21 +2,12 @@
 
 ghost use Rattle.std.specs.Prelude.{◌≡◌, ◌+◌, ◌<◌, ◌^◌, length, pos};
 ghost use Rattle.chc_simplex.specs.Terms.{sums_from};
-ghost use Rattle.chc_simplex.specs.Rounds.{number_at, rest_at, line_above, is_above, is_suitable, entering, leaves_for, step_of};
+ghost use Rattle.chc_simplex.specs.Rounds.{rest_at, line_above, is_above, is_suitable, entering, leaves_for, step_of};
 
 use crate::data::{Line, Step};
 use crate::lines::terms_at;
+use chc_form::number_at;
 use chc_nums::{add_product, product};
-
-/// An entry of a list of numbers, 0 past its end.
-pub fn number_at(numbers: &[i128], at: usize) -> i128
-    ensures { result ≡ number_at numbers.now at }
-{
-    match numbers.get(at) {
-        Some(x) => *x,
-        None => 0,
-    }
-}
 
 /// The value at which a nonbasic variable rests: 0 for each of the first ones, and a slack's bound for the others.
 pub fn rest_at(variables: usize, bounds: &[i128], variable: usize) -> i128

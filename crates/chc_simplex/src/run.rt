@@ -2,45 +2,18 @@
 
 ghost use Rattle.std.specs.Prelude.{◌≡◌, ◌+◌, ◌<◌, ◌≤◌, ◌^◌, length, IfOk, ◌++◌, Some};
 ghost use Rattle.chc_form.specs.Linear.{AllAscend, lins};
+ghost use Rattle.chc_form.specs.RowSums.{width};
 ghost use Rattle.chc_simplex.specs.Outcomes.{Gives};
 ghost use Rattle.chc_simplex.specs.Answers.{Answers};
-ghost use Rattle.chc_simplex.specs.Simplex.{AreAboveFlags};
-ghost use Rattle.chc_simplex.specs.TableauRun.{terms_width, width, bounds_of, nonbasic, slack_lines, first_tableau, run_from, whole_run, tableau_run};
+ghost use Rattle.chc_simplex.specs.Simplex.{IsKept};
+ghost use Rattle.chc_simplex.specs.TableauRun.{bounds_of, nonbasic, slack_lines, first_tableau, run_from, whole_run, tableau_run};
 
 use crate::data::{Line, Lp, Simplex, Step, Stop};
 use crate::endings::{point, refutation};
 use crate::simplex::{above_flags_of, next_step, pivot};
-use chc_form::Row;
+use chc_form::{Row, width};
 use chc_nums::{List, NoMemory, opposite};
 use std::alloc::Global;
-
-// One more than the greatest variable of a row.
-fn terms_width(terms: &[(u32, i128)]) -> usize
-    ensures value { result ≡ terms_width terms.now }
-    ensures few { result ≤ 2 ^ 32 }
-{
-    let mut width = 0;
-    let mut rest = terms;
-    while let [(v, _), more @ ..] = rest {
-        width = width.max(*v as usize + 1);
-        rest = more;
-    }
-    width
-}
-
-// One more than the greatest variable of all rows.
-fn width(rows: &[Row]) -> usize
-    ensures value { result ≡ width (lins rows.now) }
-    ensures few { result ≤ 2 ^ 32 }
-{
-    let mut width = 0;
-    let mut rest = rows;
-    while let [row, more @ ..] = rest {
-        width = width.max(terms_width(row.lin.terms.as_slice()));
-        rest = more;
-    }
-    width
-}
 
 // The bounds of the slacks.
 #[tactic(auto, using(crate::proofs::Steps::joins))]
@@ -115,7 +88,7 @@ fn first_tableau(alloc: Global, rows: &[Row]) -> Result<List<Option<Line>>, Stop
 #[tactic(auto, using(crate::proofs::Turns::rounds))]
 fn run_from(alloc: Global, rows: &[Row], pivots: u32, simplex: Simplex) -> Result<Lp, Stop>
     requires few { length rows.now < 2 ^ 31 }
-    requires marked { AreAboveFlags simplex }
+    requires kept { IsKept simplex }
     requires variables { simplex.variables ≡ width (lins rows.now) }
     requires narrow { simplex.variables ≤ 2 ^ 32 }
     ensures { Gives result (run_from (lins rows.now) simplex.bounds pivots simplex.tableau) }
@@ -155,9 +128,10 @@ fn run_from(alloc: Global, rows: &[Row], pivots: u32, simplex: Simplex) -> Resul
     }
 }
 
-#[tactic(auto, unfolding(crate::specs::TableauRun::whole_run))]
+#[tactic(auto, unfolding(crate::specs::TableauRun::whole_run), using(crate::proofs::Ascending::firsts))]
 fn run(alloc: Global, rows: &[Row], pivots: u32) -> Result<Lp, Stop>
-    requires { length rows.now < 2 ^ 31 }
+    requires few { length rows.now < 2 ^ 31 }
+    requires order { AllAscend (lins rows.now) }
     ensures { Gives result (whole_run (lins rows.now) pivots) }
 {
     let variables = width(rows);

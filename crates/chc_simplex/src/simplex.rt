@@ -1,15 +1,16 @@
 // The tableau of a run, what a round finds on it, and a pivot in place.
 
-ghost use Rattle.std.specs.Prelude.{◌≡◌, Some, slice_set};
+ghost use Rattle.std.specs.Prelude.{◌≡◌, ◌≢◌, pos, Some, slice_set};
 ghost use Rattle.chc_simplex.specs.Outcomes.{Gives};
-ghost use Rattle.chc_simplex.specs.Lines.{rewritten, rewritten_at, exchanged, pivot};
+ghost use Rattle.chc_simplex.specs.Lines.{line_at, terms_of, rewritten, rewritten_at, exchanged, pivot};
+ghost use Rattle.chc_simplex.specs.Terms.{Ascends, coefficient};
 ghost use Rattle.chc_simplex.specs.Rounds.{next_step};
-ghost use Rattle.chc_simplex.specs.Simplex.{above_flags_of, first_above, AreAboveFlags, GivesSimplex};
+ghost use Rattle.chc_simplex.specs.Simplex.{above_flags_of, first_above, IsKept, GivesSimplex};
 
 use crate::data::{Line, Simplex, Step, Stop};
 use crate::lines::{denominator_at, terms_at, turned, with_entered};
 use crate::rounds::{is_above, step_of};
-use crate::terms::coefficient;
+use crate::terms::coefficient_in_order;
 use chc_nums::List;
 use std::alloc::Global;
 
@@ -56,7 +57,7 @@ fn first_above(above_flags: &[Option<bool>]) -> Option<Option<usize>>
 /// What a round finds, or none where a number leaves 128 bits.
 #[tactic(auto, unfolding(crate::specs::Rounds::next_step), using(crate::proofs::AboveFlags::above_flags))]
 pub fn next_step(simplex: &Simplex) -> Option<Step>
-    requires { AreAboveFlags simplex.now }
+    requires { IsKept simplex.now }
     ensures { result ≡ next_step simplex.now.variables simplex.now.bounds simplex.now.tableau }
 {
     let leaving = first_above(simplex.above_flags.as_slice())?;
@@ -74,10 +75,11 @@ fn put<T: Drop>(list: &mut List<T>, at: usize, entry: T)
     }
 }
 
-// Another line at a place, with its above_flag.
-#[tactic(auto, using(crate::proofs::AboveFlags::above_flags))]
+// Another line at a place, with its flag.
+#[tactic(auto, using(crate::proofs::AboveFlags::above_flags, crate::proofs::Ascending::lines))]
 fn with_line(simplex: Simplex, at: usize, line: Option<Line>) -> Simplex
-    requires { AreAboveFlags simplex }
+    requires kept { IsKept simplex }
+    requires order { Ascends 0 (terms_of line) }
     ensures { GivesSimplex simplex (Ok result) (Some (slice_set simplex.tableau at line)) }
 {
     let Simplex {
@@ -99,30 +101,44 @@ fn with_line(simplex: Simplex, at: usize, line: Option<Line>) -> Simplex
     }
 }
 
-// The entering variable put into the line at a place. A line without it stays as it is.
-#[tactic(auto, unfolding(crate::specs::Lines::rewritten_at), using(crate::proofs::Rewriting::kept))]
+// The entering variable put into the line at a place, in which its coefficient is given.
+#[tactic(auto, unfolding(crate::specs::Lines::rewritten_at), using(crate::proofs::Rewriting::kept, crate::proofs::Ascending::lines))]
 fn rewritten_at(
     alloc: Global,
     entering: usize,
     entered: &Line,
+    a: i128,
     simplex: Simplex,
     at: usize,
 ) -> Result<Simplex, Stop>
-    requires { AreAboveFlags simplex }
+    requires kept { IsKept simplex }
+    requires order { Ascends 0 entered.now.terms }
+    requires stands { a ≢ pos 0 }
+    requires value { a ≡ coefficient (terms_of (line_at simplex.tableau at)) entering }
     ensures { GivesSimplex simplex result (rewritten_at entering entered.now simplex.tableau at) }
 {
     let Some(Some(line)) = simplex.tableau.get(at) else {
         return Ok(simplex);
     };
-    let a = coefficient(line.terms.as_slice(), entering);
-    if a == 0 {
-        return Ok(simplex);
-    }
     let made = with_entered(alloc, entering, entered, a, line)?;
     Ok(with_line(simplex, at, Some(made)))
 }
 
-// The entering variable put into each line. The others are not touched, so a pivot costs what the changed lines cost.
+// The coefficient of a variable in the line at a place, 0 where there is no line.
+#[tactic(auto, using(crate::proofs::Rewriting::kept, crate::proofs::Ascending::lines))]
+fn coefficient_at(simplex: &Simplex, at: usize, variable: usize) -> i128
+    requires { IsKept simplex.now }
+    ensures { result ≡ coefficient (terms_of (line_at simplex.now.tableau at)) variable }
+{
+    match simplex.tableau.get(at) {
+        Some(Some(line)) => coefficient_in_order(line.terms.as_slice(), variable),
+        Some(None) => 0,
+        None => 0,
+    }
+}
+
+// The entering variable put into each line. A line in which it doesn't stand is not touched, so a pivot costs what the
+// changed lines cost.
 #[tactic(auto, using(crate::proofs::Rewriting::turns))]
 fn rewritten(
     alloc: Global,
@@ -130,12 +146,17 @@ fn rewritten(
     entered: &Line,
     simplex: Simplex,
 ) -> Result<Simplex, Stop>
-    requires { AreAboveFlags simplex }
+    requires kept { IsKept simplex }
+    requires order { Ascends 0 entered.now.terms }
     ensures { GivesSimplex simplex result (rewritten entering entered.now simplex.tableau) }
 {
     let mut simplex = simplex;
     for at in 0..simplex.tableau.len() {
-        simplex = rewritten_at(alloc, entering, entered, simplex, at)?;
+        let a = coefficient_at(&simplex, at, entering);
+        if a == 0 {
+            continue;
+        }
+        simplex = rewritten_at(alloc, entering, entered, a, simplex, at)?;
     }
     Ok(simplex)
 }
@@ -147,7 +168,8 @@ fn exchanged(
     entering: usize,
     entered: Line,
 ) -> Result<Simplex, Stop>
-    requires { AreAboveFlags simplex }
+    requires kept { IsKept simplex }
+    requires order { Ascends 0 entered.terms }
     ensures { GivesSimplex simplex result (exchanged simplex.tableau leaving entering entered) }
 {
     let left = with_line(simplex, leaving, None);
@@ -156,14 +178,14 @@ fn exchanged(
 }
 
 /// The tableau after a slack left the basis and a variable entered.
-#[tactic(auto, unfolding(crate::specs::Lines::pivot))]
+#[tactic(auto, unfolding(crate::specs::Lines::pivot), using(crate::proofs::Ascending::lines))]
 pub fn pivot(
     alloc: Global,
     simplex: Simplex,
     leaving: usize,
     entering: usize,
 ) -> Result<Simplex, Stop>
-    requires { AreAboveFlags simplex }
+    requires { IsKept simplex }
     ensures { GivesSimplex simplex result (pivot simplex.tableau leaving entering) }
 {
     let denominator = denominator_at(simplex.tableau.as_slice(), leaving);

@@ -3,7 +3,7 @@
 ghost use Rattle.std.specs.Prelude.{◌≡◌, ◌<◌, length, Some, [], ◌∷◌, ◌*ℤ◌, IfSome, MatchOption};
 ghost use Rattle.chc_nums.specs.Wide.{in_128};
 ghost use Rattle.chc_simplex.specs.Outcomes.{Gives};
-ghost use Rattle.chc_simplex.specs.Terms.{coefficient, others, scaled_onto, both, merged, pushed};
+ghost use Rattle.chc_simplex.specs.Terms.{Ascends, coefficient, others, scaled_onto, both, merged, pushed};
 
 use crate::data::Stop;
 use chc_nums::{List, mul_add_in, product};
@@ -24,6 +24,25 @@ pub fn coefficient(terms: &[(usize, i128)], variable: usize) -> i128
     while let [(v, a), more @ ..] = rest {
         if *v == variable {
             return *a;
+        }
+        rest = more;
+    }
+    0
+}
+
+/// The coefficient of a variable in a sum whose variables ascend. The search ends where the variable would stand.
+#[tactic(auto, using(crate::proofs::Ascending::searches))]
+pub fn coefficient_in_order(terms: &[(usize, i128)], variable: usize) -> i128
+    requires { Ascends 0 terms.now }
+    ensures { result ≡ coefficient terms.now variable }
+{
+    let mut rest = terms;
+    while let [(v, a), more @ ..] = rest {
+        if *v == variable {
+            return *a;
+        }
+        if *v > variable {
+            return 0;
         }
         rest = more;
     }
@@ -133,7 +152,7 @@ pub fn merged(
 ) -> Result<List<(usize, i128)>, Stop>
     ensures { Gives result (merged factors.now.left factors.now.right (others skipped ts.now) us.now) }
 {
-    let mut made = List::new(alloc);
+    let mut made = List::with_capacity(alloc, ts.len() + us.len())?;
     let mut left = ts;
     let mut right = us;
     while let Some((v, a, more_left)) = first_other(skipped, left) {

@@ -22,3 +22,17 @@ pub fn all_copied<T: Copied>(alloc: Global, entries: &[T]) -> Result<Vec<T>, NoM
     }
     Ok(all)
 }
+
+impl Copied for i128 {
+    fn copied(&self, _alloc: Global) -> Result<i128, NoMemory> {
+        Ok(*self)
+    }
+}
+
+impl<A: Copied, B: Copied> Copied for (A, B) {
+    fn copied(&self, alloc: Global) -> Result<(A, B), NoMemory> {
+        let first = self.0.copied(alloc)?;
+        let second = self.1.copied(alloc)?;
+        Ok((first, second))
+    }
+}

@@ -33,6 +33,13 @@ impl<T> List<T> {
         List::from_vec(Vec::new(alloc))
     }
 
+    /// A list of nothing, with room for so many entries.
+    pub fn with_capacity(alloc: Global, capacity: usize) -> Result<List<T>, NoMemory>
+        ensures { IfOk result (λ list. list ≡ []) }
+    {
+        Ok(List::from_vec(Vec::with_capacity(alloc, capacity)?))
+    }
+
     /// The list of what a vector has, with no new memory.
     pub fn from_vec(items: Vec<T>) -> List<T>
         ensures { result ≡ items.items }

@@ -6,7 +6,6 @@ use Rattle.std.proofs.lemmas.Bool.Decides.{nat_tests}
 use Rattle.std.specs.List.{list_all}
 use Rattle.std.proofs.lemmas.Bool.{and_parts}
 use lib.IntN.{ℤ}
-use Rattle.chc_form.specs.WellMade.{is_few, all_few, is_sort, is_rule, well_made}
 use Rattle.chc_form.specs.declared.system.System.{System}
 use Rattle.chc_form.specs.declared.lemma.Lemma.{Lemma}
 use Rattle.chc_reduce.specs.Obligations.{Obligation, at_rules, for_lemmas}
@@ -56,17 +55,6 @@ lemma-left s have k l (m ∷ ls) ps left many e h =
 
 pub lemma-open : (s : System) (have : List Lemma) (k : ℕ) (l : Lemma) (ls : List Lemma) (ps : List (List ℤ)) (first : ℕ × ℕ) → tested (at_rules s have k l 0 s.rules) ps ≡ Err first → tested (for_lemmas s have k (l ∷ ls)) ps ≡ Err first
 lemma-open s have k l ls ps first h = lemma-tested s have k l ls ps ∙ ap (λ (t : ProofsLeft). and_then t (tested (for_lemmas s have (k + 1) ls))) h
-
--- rules have numbers of 32 bits
-pub rules-few : (s : System) → well_made s ≡ true → length s.rules < 2147483648
-unfolding well_made
-rules-few s h =
-    let a = and_parts (all_few (all_few is_sort) s.preds) _ h in
-    let b = and_parts (all_few (is_rule s.preds) s.rules) _ a.1 in
-    let few : is_few s.rules ≡ true = (and_parts (is_few s.rules) (list_all (is_rule s.preds) s.rules) b.0).0 in
-    grind (arith, nat_tests)
-
-pub ruleset numbers = (rules-few)
 
 pub ruleset appends = (lemma-tested, lemma-open)
 

@@ -13,7 +13,7 @@ ghost use Rattle.pool_state.specs.Tested.{tested, tested_one, Leaves};
 use crate::fault::BatchFault;
 use chc_form::{Lemma, Part, System};
 use chc_nums::{List, NoMemory};
-use chc_reduce::{reduce, rows};
+use chc_reduce::{formula_rows, reduce};
 use std::alloc::Global;
 
 // Whether a proof shows a lemma at a rule's head under the lemmas that are had.
@@ -29,8 +29,8 @@ fn is_shown(
     ensures { IfOk result (λ b. b ≡ passes proof.now (rows_of (reduced s.now (part.Rule rule) (Some l.now) have.now))) }
 {
     let formula = reduce(alloc, s, Part::Rule(rule), Some(l), have)?;
-    let rows = rows(alloc, &formula)?;
-    chc_cert::passes(alloc, proof, rows.as_slice())
+    let made = formula_rows(alloc, &formula)?;
+    chc_cert::passes(alloc, proof, made.rows.as_slice())
 }
 
 // The proofs that are left after the first has shown the lemma.
@@ -59,7 +59,7 @@ fn test_rule<'a>(
 }
 
 // The proofs that are left after those of one lemma.
-#[tactic(auto, using(crate::proofs::Testing::numbers))]
+#[tactic(auto, using(chc_reduce::proofs::Few::numbers))]
 fn test_rules<'a>(
     alloc: Global,
     s: &System,

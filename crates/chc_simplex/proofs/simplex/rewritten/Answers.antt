@@ -6,7 +6,7 @@ use Rattle.chc_simplex.proofs.simplex.rewritten.Goals as goal
 pub returns : goal.returns
 returns c = record {
   tableau = from-end c.args.entering c.args.entered.now c.loop-at.simplex.tableau c.loop-at.at (rewritten c.args.entering c.args.entered.now c.args.simplex.tableau) (omega arith) c.loop-at.invariant.turn;
-  marked = c.loop-at.invariant.marked;
+  kept = c.loop-at.invariant.kept;
   variables = c.loop-at.invariant.variables;
   bounds = c.loop-at.invariant.bounds;
 }
