@@ -37,8 +37,10 @@ use Rattle.sol_meaning.specs.declared.End.{End}
 use Rattle.sol_meaning.specs.declared.End.TheVariants as done
 use Rattle.sol_meaning.specs.Eval.{number_at}
 use Rattle.sol_meaning.specs.Exec.{exec, exec_all, finished, called}
-use Rattle.sol_meaning.specs.Fits.{takes_args, is_sender, each, call_fits, Fits}
-use Rattle.sol_meaning.specs.Run.{fun_at, door, settled, call_once, go_on, call_each, fresh, Violates}
+use Rattle.sol_core.specs.Values.{is_sender, each}
+use Rattle.sol_core.specs.Fits.{takes_args, call_fits, Fits}
+use Rattle.sol_core.specs.Doors.{fun_at, door}
+use Rattle.sol_meaning.specs.Run.{settled, call_once, go_on, call_each, fresh, Violates}
 use Rattle.chc_encode.specs.declared.path.Path.{Path}
 use Rattle.chc_encode.specs.PathRows.{entry, after, after_all, target}
 use Rattle.chc_encode.specs.Systems.{at_entry, zeros_from, zero_rule, rule_of, query_at, own_query, queries_of_steps, queries_of, system_of}

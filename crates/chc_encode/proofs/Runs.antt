@@ -26,7 +26,8 @@ use Rattle.sol_meaning.specs.declared.End.{End}
 use Rattle.sol_meaning.specs.declared.End.TheVariants as done
 use Rattle.sol_meaning.specs.Eval.{number_at}
 use Rattle.sol_meaning.specs.Exec.{exec_all, finished, called}
-use Rattle.sol_meaning.specs.Run.{fun_at, door, settled, call_once, go_on, call_each, fresh, Violates}
+use Rattle.sol_core.specs.Doors.{fun_at, door}
+use Rattle.sol_meaning.specs.Run.{settled, call_once, go_on, call_each, fresh, Violates}
 use Rattle.chc_encode.specs.PathRows.{sorts_of, entry, after_all}
 use Rattle.chc_encode.specs.Systems.{at_entry, zeros_from, zero_rule, rule_of, queries_of_steps, queries_of, system_of}
 use Rattle.chc_encode.proofs.Valuations.{plus-value, minus-value}

@@ -9,7 +9,7 @@ use Rattle.chc_form.specs.Solving.{Solves, Refutes}
 use Rattle.chc_form.specs.Derivations.{Derivable}
 use Rattle.sol_core.specs.declared.Program.{Program}
 use Rattle.sol_core.specs.declared.Script.{Script}
-use Rattle.sol_meaning.specs.Fits.{Fits}
+use Rattle.sol_core.specs.Fits.{Fits}
 use Rattle.sol_meaning.specs.Run.{Violates}
 
 -- a target whose query is refuted by lemmas that solve the system is violated by no script, in any number of turns

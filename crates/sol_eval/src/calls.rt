@@ -3,7 +3,7 @@
 ghost use Rattle.std.specs.List.{list_all};
 ghost use Rattle.std.specs.Prelude.{◌≡◌, ◌<◌, IsTrue, IfOk, Some, slice_get};
 ghost use Rattle.sol_meaning.specs.Exec.{exec_all, entered, finished, called};
-ghost use Rattle.sol_meaning.specs.Run.{door};
+ghost use Rattle.sol_core.specs.Doors.{door};
 ghost use Rattle.sol_eval.specs.Ran.{Ran, Kept};
 ghost use Rattle.sol_eval.specs.Sized.{fun_sized};
 

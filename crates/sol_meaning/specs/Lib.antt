@@ -1,4 +1,3 @@
 pub mod Eval
 pub mod Exec
-pub mod Fits
 pub mod Run

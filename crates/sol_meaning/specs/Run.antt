@@ -3,13 +3,13 @@ use Rattle.std.specs.Prelude.{ℕ, List, [], ◌∷◌, Option, Some, None, slic
 use Rattle.std.specs.List.{Contains}
 use lib.IntN.{ℤ}
 use Rattle.sol_core.specs.declared.Program.{Program}
-use Rattle.sol_core.specs.declared.Fun.{Fun}
 use Rattle.sol_core.specs.declared.Build.{Build}
 use Rattle.sol_core.specs.declared.BuildArg.{BuildArg}
 use Rattle.sol_core.specs.declared.BuildArg.TheVariants as arg
 use Rattle.sol_core.specs.declared.State.{State}
 use Rattle.sol_core.specs.declared.Script.{Script}
 use Rattle.sol_core.specs.declared.Call.{Call, out-Call}
+use Rattle.sol_core.specs.Doors.{door}
 use Rattle.sol_meaning.specs.declared.world.World.{World}
 use Rattle.sol_meaning.specs.declared.world.End.{End}
 use Rattle.sol_meaning.specs.declared.world.End.TheVariants as done
@@ -31,15 +31,6 @@ constructed p given (Some f) args w = called (slice_get p.funs f) (map (build_ar
 -- a contract's initialisers, and then its constructor
 abbrev pub built : Program → List ℤ → Build → Done
 built p given b w = after_normal (exec_all b.inits w) (constructed p given b.fun b.args)
-
--- the function at a place, where there is one
-abbrev pub fun_at : Program → Option ℕ → Option Fun
-fun_at p None = None
-fun_at p (Some f) = slice_get p.funs f
-
--- the function behind a door
-abbrev pub door : Program → ℕ → Option Fun
-door p d = fun_at p (slice_get p.doors d)
 
 -- a call from outside: a revert undoes it, and its hits stay; a cut gives the state from before it and ends the run
 abbrev pub settled : State → End × World → Bool × World

@@ -15,8 +15,9 @@ use Rattle.sol_core.specs.declared.Program.{Program}
 use Rattle.sol_core.specs.declared.Script.{Script}
 use Rattle.sol_core.specs.declared.Call.{Call, roll-Call}
 use Rattle.sol_core.specs.declared.Call.TheFolds.{fold-roll-Call}
-use Rattle.sol_meaning.specs.Run.{door, fun_at}
-use Rattle.sol_meaning.specs.Fits.{Fits, in_range, is_sender, takes, takes_args, each, call_fits}
+use Rattle.sol_core.specs.Doors.{door, fun_at}
+use Rattle.sol_core.specs.Values.{in_range, is_sender, takes, each}
+use Rattle.sol_core.specs.Fits.{Fits, takes_args, call_fits}
 use Rattle.sol_eval.specs.Sized.{type_sized}
 use Rattle.sol_eval.proofs.Sizes.{type_size}
 use Rattle.sol_probe.specs.declared.calls.PlainCall.{PlainCall}

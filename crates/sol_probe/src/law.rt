@@ -3,7 +3,7 @@
 ghost use Rattle.std.specs.List.{Contains};
 ghost use Rattle.sol_core.specs.declared.Program.{Program};
 ghost use Rattle.sol_core.specs.declared.Script.{Script};
-ghost use Rattle.sol_meaning.specs.Fits.{Fits};
+ghost use Rattle.sol_core.specs.Fits.{Fits};
 ghost use Rattle.sol_probe.specs.Probes.{probes};
 
 /// Each probe of a program fits it.

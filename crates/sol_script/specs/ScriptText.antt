@@ -12,7 +12,7 @@ use Rattle.sol_core.specs.declared.Answer.TheVariants as answer
 use Rattle.sol_core.specs.declared.Call.{Call, Call-F}
 use Rattle.sol_core.specs.declared.Call.TheFolds.{fold-Call}
 use Rattle.sol_core.specs.declared.Reply.{Reply, Reply-F, fold-Reply}
-use Rattle.sol_meaning.specs.Run.{door}
+use Rattle.sol_core.specs.Doors.{door}
 
 -- a text with numbers behind it, each after a space; numbers are decimal, with `-` before negative ones
 abbrev pub with_numbers : List ℕ → List ℤ → List ℕ

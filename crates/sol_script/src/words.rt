@@ -2,7 +2,7 @@
 
 ghost use Rattle.std.specs.Prelude.{◌≡◌, ◌++◌, IfOk, OnOk, codes, string_bytes};
 ghost use Rattle.std.specs.Fmt.{signed_decimal};
-ghost use Rattle.sol_meaning.specs.Run.{door};
+ghost use Rattle.sol_core.specs.Doors.{door};
 ghost use Rattle.sol_script.specs.ScriptText.{with_numbers, deploy_line, name_of, call_line, value_words, answer_line};
 
 use chc_nums::{Name, NoMemory};

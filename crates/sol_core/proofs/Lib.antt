@@ -1,0 +1,5 @@
+pub mod Typing
+pub mod Stating
+pub mod Visiting
+pub mod Typed
+pub mod Fitting

@@ -1,0 +1,7 @@
+pub mod Values
+pub mod Doors
+pub mod Fits
+pub mod ScriptFaults
+pub mod TypesOf
+pub mod Statements
+pub mod Formed
