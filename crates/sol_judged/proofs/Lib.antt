@@ -1,0 +1,9 @@
+pub mod Faults
+pub mod Sizes
+pub mod Wholes
+pub mod Powers
+pub mod TypeNames
+pub mod Judging
+pub mod Heights
+pub mod Arguments
+pub mod Linking
