@@ -1,0 +1,4 @@
+pub mod Views
+pub mod Counted
+pub mod Calls
+pub mod Gathered

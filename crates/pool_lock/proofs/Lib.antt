@@ -1,0 +1,10 @@
+pub mod Sums
+pub mod Entries
+pub mod Places
+pub mod Settled
+pub mod Turns
+pub mod Events
+pub mod Opening
+pub mod Closing
+pub mod Sections
+pub mod Passes
