@@ -1,4 +1,5 @@
 pub mod Sizes
+pub mod RunPasses
 pub mod Proofs
 pub mod Pools
 pub mod Growing

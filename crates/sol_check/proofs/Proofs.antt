@@ -1,5 +1,5 @@
 -- The proofs of the last round pass.
-use Rattle.std.proofs.Common.{◌≡◌, sym, ap, subst, refl, ℕ, suc, ◌≤◌, length, arith, ◌==◌, List, [], ◌∷◌, ◌++◌, Bool, true, false, Some, None, if◌then◌else◌}
+use Rattle.std.proofs.Common.{◌≡◌, sym, ap, subst, refl, ℕ, suc, ◌<◌, ◌≤◌, length, arith, ◌==◌, List, [], ◌∷◌, ◌++◌, Bool, true, false, Some, None, if◌then◌else◌}
 use lib.IntN.{ℤ}
 use Rattle.std.specs.List.{list_all, Contains}
 use Rattle.chc_form.specs.declared.Formula.{Formula}
@@ -16,11 +16,16 @@ use Rattle.chc_simplex.specs.declared.Lp.{Lp}
 use Rattle.chc_simplex.specs.declared.Lp.TheVariants as lp
 use Rattle.chc_simplex.specs.TableauRun.{tableau_run}
 use Rattle.chc_cert.specs.Passing.{passes}
-use Rattle.chc_cert.proofs.Laws.{run-passes}
+use Rattle.sol_check.proofs.RunPasses.{run-passes}
 use Rattle.chc_reduce.specs.Reduced.{reduced}
 use Rattle.chc_reduce.specs.Rows.{rows_of, is_plain, branch_of}
 use Rattle.chc_reduce.specs.Obligations.{Obligation, at_rules, for_lemmas, obligations}
 use Rattle.chc_reduce.proofs.Ordered.{reduced-ordered}
+use Rattle.chc_reduce.proofs.Few.{queries-few}
+use Rattle.chc_encode.specs.Systems.{system_of}
+use Rattle.chc_encode.proofs.Laws.{asks}
+use Rattle.sol_first.specs.declared.Contract.{Contract}
+use Rattle.sol_first.specs.Elaborated.{program_of}
 use Rattle.chc_ask.specs.declared.Asked.TheVariants as asked
 use Rattle.chc_ask.specs.Asked.{answered, asked_of}
 use Rattle.chc_templates.specs.Candidates.{candidates_of}
@@ -87,4 +92,15 @@ greatest_of s g w h = subst (λ (ls : List Lemma). list_all (of_system s) ls ≡
 pub greatest_few : (s : System) (g : Greatest) → IsGreatest s g → length g.lemmas ≤ 1024
 greatest_few s g h = let n : length g.lemmas ≡ length (kept g.drops (candidates_of s)) = ap (length {A = Lemma}) h.kept in omega (arith, n, kept-few g.drops (candidates_of s), candidates-few s)
 
+pub candidates_few : (s : System) → length (candidates_of s) < 4294967296
+candidates_few s = let n = candidates-few s in omega arith
+
+-- a program has as many targets as its rules have queries
+pub sites_few : (c : Contract) → well_made (system_of c) ≡ true → length (program_of c).sites < 4294967296
+sites_few c w =
+    let same : length (system_of c).queries ≡ length (program_of c).sites = (asks c).count in
+    omega (arith, queries-few (system_of c) w)
+
 pub ruleset greatests = (greatest_proved, greatest_of, greatest_few)
+
+pub ruleset counts = (candidates_few, sites_few)

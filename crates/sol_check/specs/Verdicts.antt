@@ -19,7 +19,7 @@ use Rattle.chc_houdini.specs.declared.RoundStop.{RoundStop}
 use Rattle.sol_core.specs.declared.Program.{Program}
 use Rattle.sol_core.specs.declared.Script.{Script}
 use Rattle.sol_meaning.specs.Run.{Violates}
-use Rattle.sol_meaning.specs.Fits.{Fits}
+use Rattle.sol_core.specs.Fits.{Fits}
 use Rattle.sol_probe.specs.FirstHit.{IsFirstHit}
 use Rattle.sol_report.specs.declared.Stop.{Stop}
 use Rattle.sol_report.specs.declared.Stop.TheVariants as stop

@@ -1,6 +1,6 @@
 // From a contract to its report.
 
-ghost use Rattle.std.specs.Prelude.{◌≡◌, true, IfOk, IsTrue};
+ghost use Rattle.std.specs.Prelude.{◌≡◌, ◌<◌, ◌^◌, length, true, IfOk, IsTrue};
 ghost use Rattle.std.specs.Arc.{arc_value};
 ghost use Rattle.chc_form.specs.WellMade.{well_made};
 ghost use Rattle.sol_eval.specs.Sized.{is_sized};
@@ -30,6 +30,7 @@ fn reported(
     greatest: Greatest,
 ) -> Result<Report, NoMemory>
     requires sized { IsTrue (is_sized program) }
+    requires few { length program.sites < 2 ^ 32 }
     requires well { well_made (arc_value system) ≡ true }
     requires kept { IsGreatest (arc_value system) greatest }
     ensures { IfOk result (λ r. IsReported program (arc_value system) r) }
@@ -53,7 +54,7 @@ fn reported(
 
 /// The report of a contract: its program and rules, the lemmas that the template rounds keep, and a verdict on each
 /// target. `NoMemory` also stands for what the calls below it say.
-#[tactic(auto, using(crate::proofs::Standing::founds, crate::proofs::Sizes::program_sized))]
+#[tactic(auto, using(crate::proofs::Standing::founds, crate::proofs::Proofs::counts, crate::proofs::Sizes::program_sized))]
 pub fn check_contract(alloc: Global, contract: &Contract) -> Result<Report, NoMemory>
     requires { IsTyped contract.now }
     ensures { IfOk result (λ r. IsReportOf contract.now r) }

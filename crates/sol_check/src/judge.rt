@@ -1,6 +1,6 @@
 // The verdict on each target: its query under the pool's lemmas, and then the probes.
 
-ghost use Rattle.std.specs.Prelude.{◌≡◌, ◌+◌, ◌<◌, true, length, Some, slice_get, IfOk, OnOk, IfSome, IsTrue, option_copied};
+ghost use Rattle.std.specs.Prelude.{◌≡◌, ◌+◌, ◌<◌, ◌^◌, true, length, Some, slice_get, IfOk, OnOk, IfSome, IsTrue, option_copied};
 ghost use Rattle.chc_form.specs.WellMade.{well_made};
 ghost use Rattle.chc_ask.specs.declared.Asked.TheVariants as asked;
 ghost use Rattle.chc_ask.specs.Asked.{asked_of};
@@ -160,6 +160,7 @@ fn add_verdict(
 ) -> Result<(), NoMemory>
     requires sized { IsTrue (is_sized program.now) }
     requires well { well_made system.now ≡ true }
+    requires few { length program.now.sites < 2 ^ 32 }
     requires within { length verdicts.old < length program.now.sites }
     requires table { IfSome table.old (AreFirstHits program.now) }
     requires before { VerdictsFound program.now system.now drops.now lemmas.now 0 verdicts.old }
@@ -167,9 +168,7 @@ fn add_verdict(
     ensures count { OnOk result (length verdicts.new ≡ length verdicts.old + 1) }
     ensures table { OnOk result (IfSome table.new (AreFirstHits program.now)) }
 {
-    let Ok(target) = u32::try_from(verdicts.len()) else {
-        return Err(NoMemory);
-    };
+    let target = verdicts.len() as u32;
     let verdict = verdict(alloc, program, system, drops, lemmas, table, target)?;
     verdicts.push((target, verdict))
 }
@@ -184,6 +183,7 @@ pub fn judge(
     lemmas: &[Lemma],
 ) -> Result<List<(u32, Verdict)>, NoMemory>
     requires sized { IsTrue (is_sized program.now) }
+    requires few { length program.now.sites < 2 ^ 32 }
     requires well { well_made system.now ≡ true }
     ensures found { IfOk result (λ vs. VerdictsFound program.now system.now drops.now lemmas.now 0 vs) }
     ensures count { IfOk result (λ vs. length vs ≡ length program.now.sites) }

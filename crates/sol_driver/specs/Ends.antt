@@ -29,6 +29,14 @@ pub record Told : Type 0 where
   pub faults_before : ℕ
   pub faults_after : ℕ
 
+-- what was asked of a shelf
+abbrev pub asked : List (String Global) → (List ℕ → Option (List ℕ)) → ℕ → ℕ → Asked
+asked words holds before after = record { words = words; holds = holds; faults_before = before; faults_after = after }
+
+-- what was told to a sink
+abbrev pub told : Option (List ℕ) → Option (List ℕ) → ℕ → ℕ → Told
+told old new before after = record { written_before = old; written_after = new; faults_before = before; faults_after = after }
+
 -- the words name a file
 abbrev pub Names : Asked → List ℕ → Type 0
 Names a name = command a.words ≡ Some name

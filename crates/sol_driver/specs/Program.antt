@@ -1,18 +1,19 @@
 -- What the program does with its words and its status.
-use Rattle.std.specs.Prelude.{◌≡◌, ℕ, List, [], ◌∷◌, drop, Bool, true, false, Option, Some, None, string_bytes, codes, if◌then◌else◌}
+use Rattle.std.specs.Prelude.{◌≡◌, ℕ, List, [], ◌∷◌, drop, Bool, true, false, Result, Ok, Err, string_bytes, codes, if◌then◌else◌}
 use Rattle.std.specs.Str.{bytes_eq}
 use Rattle.std.specs.Vec.Iter.{into_iter_items}
 use Rattle.std.specs.declared.vec.IntoIter.{IntoIter}
 use Rattle.std.specs.declared.string.String.{String}
 use Rattle.std.specs.declared.alloc.Global.{Global}
 use Rattle.sol_driver.specs.declared.outcome.Status.{Status}
+use Rattle.sol_driver.specs.declared.program.WordsFault.{WordsFault}
 use Rattle.sol_driver.specs.Ends.{Asked, Told, EndsWith}
 use Rattle.sol_driver.specs.Texts.{code_of}
 
--- the words after the program's name, in order and all; none where they can't be read
-abbrev pub given_words : Option (IntoIter (String Global) Global) → List (String Global)
-given_words None = []
-given_words (Some args) = drop 1 (into_iter_items args)
+-- the words after the program's name, in order and all; none where the system gave none
+abbrev pub given_words : Result (IntoIter (String Global) Global) WordsFault → List (String Global)
+given_words (Ok args) = drop 1 (into_iter_items args)
+given_words (Err f) = []
 
 -- no word is given, or `--help` alone
 abbrev pub asks_usage : List (String Global) → Bool

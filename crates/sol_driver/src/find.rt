@@ -1,7 +1,7 @@
 // From the words to what there is to tell.
 
 ghost use Rattle.std.specs.Prelude.{◌≤◌, length, IfOk};
-ghost use Rattle.sol_driver.specs.Ends.{Asked};
+ghost use Rattle.sol_driver.specs.Ends.{asked};
 ghost use Rattle.sol_driver.specs.Findings.{IsFinding, IsJudged};
 
 use crate::check::{CheckFault, check};
@@ -37,12 +37,7 @@ fn find_in(alloc: Global, bytes: &[u8]) -> Result<Finding, NoMemory>
 
 /// What there is to tell of the file that the words name.
 pub fn find<F: Shelf>(alloc: Global, words: &[String], shelf: &mut F) -> Result<Finding, NoMemory>
-    ensures { IfOk result (λ f. IsFinding (record {
-      words = words.now;
-      holds = F.holds shelf.old;
-      faults_before = F.faults shelf.old;
-      faults_after = F.faults shelf.new;
-    }) f) }
+    ensures { IfOk result (λ f. IsFinding (asked words.now (F.holds shelf.old) (F.faults shelf.old) (F.faults shelf.new)) f) }
 {
     let Some(name) = checked_file(words) else {
         return Ok(Finding::Line(Status::Words));

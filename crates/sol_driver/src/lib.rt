@@ -15,5 +15,5 @@ mod top;
 
 pub use laws::status_laws;
 pub use outcome::{Outcome, Status, code};
-pub use program::{given_words, run_program, run_status};
+pub use program::{WordsFault, given_words, run_program, run_status};
 pub use top::{run_alone, run_main};

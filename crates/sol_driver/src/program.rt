@@ -1,8 +1,9 @@
 // What the program does with its words and its status.
 
-ghost use Rattle.std.specs.Prelude.{◌≡◌, IfOk};
-ghost use Rattle.sol_driver.specs.Ends.{Asked, EndsWith};
+ghost use Rattle.std.specs.Prelude.{◌≡◌, IfOk, Err, is_ok, false};
+ghost use Rattle.sol_driver.specs.Ends.{Asked, EndsWith, asked, told};
 ghost use Rattle.sol_driver.specs.Program.{given_words, asks_usage, usage, usage_for, EndsAsNumber};
+ghost use Rattle.sol_driver.specs.Texts.{code_of};
 ghost use Rattle.sol_outside.specs.Causes.{AppendedPart};
 
 use crate::outcome::{Status, code};
@@ -14,16 +15,31 @@ use std::sync::Wait;
 use std::thread::Threads;
 use std::vec::IntoIter;
 
-/// The words after the first, which is the program's name, in order and all; none where they can't be read.
-pub fn given_words(alloc: Global, args: Option<IntoIter<String>>) -> Result<Vec<String>, NoMemory>
-    ensures { IfOk result (λ words. words.items ≡ given_words args) }
+/// Why the system gave no words: one of them isn't UTF-8, or memory was wanting for them.
+#[derive(Clone, Copy, Debug, PartialEq, Eq)]
+pub enum WordsFault {
+    Unreadable,
+    NoMemory,
+}
+
+/// The words after the first, which is the program's name, in order and all; none where one can't be read.
+pub fn given_words(
+    alloc: Global,
+    args: Result<IntoIter<String>, WordsFault>,
+) -> Result<Vec<String>, NoMemory>
+    ensures words { IfOk result (λ words. words.items ≡ given_words args) }
+    ensures memory { args ≡ Err WordsFault.NoMemory → is_ok result ≡ false }
 {
     let mut words = Vec::new(alloc);
-    if let Some(mut args) = args {
-        let _ = args.next();
-        while let Some(word) = args.next() {
-            words.push(word)?;
+    match args {
+        Ok(mut args) => {
+            let _ = args.next();
+            while let Some(word) = args.next() {
+                words.push(word)?;
+            }
         }
+        Err(WordsFault::Unreadable) => {}
+        Err(WordsFault::NoMemory) => return Err(NoMemory),
     }
     Ok(words)
 }
@@ -63,17 +79,7 @@ pub fn run_status<R: Threads + Wait + Sync, F: Shelf, K: Sink, G: Gate + Sync>(
     out: &mut K,
     gate: &G,
 ) -> Status
-    ensures { EndsWith (record {
-      words = words.now;
-      holds = F.holds shelf.old;
-      faults_before = F.faults shelf.old;
-      faults_after = F.faults shelf.new;
-    }) (record {
-      written_before = K.written out.old;
-      written_after = K.written out.new;
-      faults_before = K.faults out.old;
-      faults_after = K.faults out.new;
-    }) result }
+    ensures { EndsWith (asked words.now (F.holds shelf.old) (F.faults shelf.old) (F.faults shelf.new)) (told (K.written out.old) (K.written out.new) (K.faults out.old) (K.faults out.new)) result }
 {
     let outcome = run_main(rt, alloc, words, shelf, out, gate);
     outcome.status
@@ -90,17 +96,7 @@ fn run_words<R: Threads + Wait + Sync, F: Shelf, K: Sink, N: Sink, G: Gate + Syn
     notes: &mut N,
     gate: &G,
 ) -> u8
-    ensures ends { EndsAsNumber (record {
-      words = words.now;
-      holds = F.holds shelf.old;
-      faults_before = F.faults shelf.old;
-      faults_after = F.faults shelf.new;
-    }) (record {
-      written_before = K.written out.old;
-      written_after = K.written out.new;
-      faults_before = K.faults out.old;
-      faults_after = K.faults out.new;
-    }) result }
+    ensures ends { EndsAsNumber (asked words.now (F.holds shelf.old) (F.faults shelf.old) (F.faults shelf.new)) (told (K.written out.old) (K.written out.new) (K.faults out.old) (K.faults out.new)) result }
     ensures usage { AppendedPart (N.written notes.old) (N.written notes.new) (usage_for words.now) }
 {
     tell_usage(words, notes);
@@ -110,41 +106,29 @@ fn run_words<R: Threads + Wait + Sync, F: Shelf, K: Sink, N: Sink, G: Gate + Syn
 // What `run_program` does where memory was wanting for the words.
 #[tactic(auto, using(crate::proofs::Numbers::numbers))]
 fn run_nothing<K: Sink>(out: &mut K) -> u8
-    ensures { (a : Asked) → EndsAsNumber a (record {
-      written_before = K.written out.old;
-      written_after = K.written out.new;
-      faults_before = K.faults out.old;
-      faults_after = K.faults out.new;
-    }) result }
+    ensures ends { (a : Asked) → EndsAsNumber a (told (K.written out.old) (K.written out.new) (K.faults out.old) (K.faults out.new)) result }
+    ensures number { result ≡ code_of Status.NoMemory }
 {
     let outcome = without_memory(None, out);
     code(outcome.status)
 }
 
 /// The whole program, from what the system gives as its arguments to the number that it ends with: does what the words
-/// after the first ask, as `run_main`. Where no word is given, or `--help` alone, how it is used goes to the notes.
+/// after the first ask, as `run_main`. Where no word is given, or `--help` alone, how it is used goes to the notes; where
+/// memory was wanting for the words, nothing is done and the number says so.
 #[tactic(auto, using(crate::proofs::Numbers::numbers))]
 pub fn run_program<R: Threads + Wait + Sync, F: Shelf, K: Sink, N: Sink, G: Gate + Sync>(
     rt: &R,
     alloc: Global,
-    args: Option<IntoIter<String>>,
+    args: Result<IntoIter<String>, WordsFault>,
     shelf: &mut F,
     out: &mut K,
     notes: &mut N,
     gate: &G,
 ) -> u8
-    ensures ends { EndsAsNumber (record {
-      words = given_words args;
-      holds = F.holds shelf.old;
-      faults_before = F.faults shelf.old;
-      faults_after = F.faults shelf.new;
-    }) (record {
-      written_before = K.written out.old;
-      written_after = K.written out.new;
-      faults_before = K.faults out.old;
-      faults_after = K.faults out.new;
-    }) result }
+    ensures ends { EndsAsNumber (asked (given_words args) (F.holds shelf.old) (F.faults shelf.old) (F.faults shelf.new)) (told (K.written out.old) (K.written out.new) (K.faults out.old) (K.faults out.new)) result }
     ensures usage { AppendedPart (N.written notes.old) (N.written notes.new) (usage_for (given_words args)) }
+    ensures memory { args ≡ Err WordsFault.NoMemory → result ≡ code_of Status.NoMemory }
 {
     match given_words(alloc, args) {
         Ok(words) => run_words(rt, alloc, words.as_slice(), shelf, out, notes, gate),

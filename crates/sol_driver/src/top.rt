@@ -1,7 +1,7 @@
 // The top calls.
 
 ghost use Rattle.std.specs.Prelude.{◌≡◌, Some, None};
-ghost use Rattle.sol_driver.specs.Ends.{Asked, Told, Ends};
+ghost use Rattle.sol_driver.specs.Ends.{Ends, asked, told};
 ghost use Rattle.sol_driver.specs.Outcomes.{TellsText};
 ghost use Rattle.sol_outside.specs.Causes.{AppendedPart};
 ghost use Rattle.sol_report.specs.Texts.{text_of};
@@ -32,12 +32,7 @@ pub fn without_memory<K: Sink>(report: Option<Report>, out: &mut K) -> Outcome
 // A status that has one line and no report.
 #[tactic(auto, using(crate::proofs::Outcomes::outcomes))]
 fn tell_line<K: Sink>(status: Status, line: &[u8], out: &mut K) -> Outcome
-    ensures { TellsText status None line.now (record {
-      written_before = K.written out.old;
-      written_after = K.written out.new;
-      faults_before = K.faults out.old;
-      faults_after = K.faults out.new;
-    }) result }
+    ensures { TellsText status None line.now (told (K.written out.old) (K.written out.new) (K.faults out.old) (K.faults out.new)) result }
 {
     match out.put(line) {
         Ok(()) => Outcome {
@@ -55,12 +50,7 @@ fn tell_line<K: Sink>(status: Status, line: &[u8], out: &mut K) -> Outcome
 // A report, and the status that its verdicts give.
 #[tactic(auto, using(crate::proofs::Outcomes::outcomes))]
 fn tell_report<K: Sink>(alloc: Global, report: Report, out: &mut K) -> Outcome
-    ensures { TellsText (the_status report.verdicts) (Some report) (text_of report) (record {
-      written_before = K.written out.old;
-      written_after = K.written out.new;
-      faults_before = K.faults out.old;
-      faults_after = K.faults out.new;
-    }) result }
+    ensures { TellsText (the_status report.verdicts) (Some report) (text_of report) (told (K.written out.old) (K.written out.new) (K.faults out.old) (K.faults out.new)) result }
 {
     let Ok(lines) = lines(alloc, &report) else {
         return without_memory(None, out);
@@ -88,17 +78,7 @@ pub fn run_alone<F: Shelf, K: Sink>(
     shelf: &mut F,
     out: &mut K,
 ) -> Outcome
-    ensures { Ends (record {
-      words = words.now;
-      holds = F.holds shelf.old;
-      faults_before = F.faults shelf.old;
-      faults_after = F.faults shelf.new;
-    }) (record {
-      written_before = K.written out.old;
-      written_after = K.written out.new;
-      faults_before = K.faults out.old;
-      faults_after = K.faults out.new;
-    }) result }
+    ensures { Ends (asked words.now (F.holds shelf.old) (F.faults shelf.old) (F.faults shelf.new)) (told (K.written out.old) (K.written out.new) (K.faults out.old) (K.faults out.new)) result }
 {
     match find(alloc, words, shelf) {
         Ok(Finding::Line(status)) => tell_line(status, status_line(status), out),
@@ -117,17 +97,7 @@ pub fn run_main<R: Threads + Wait + Sync, F: Shelf, K: Sink, G: Gate + Sync>(
     out: &mut K,
     _gate: &G,
 ) -> Outcome
-    ensures { Ends (record {
-      words = words.now;
-      holds = F.holds shelf.old;
-      faults_before = F.faults shelf.old;
-      faults_after = F.faults shelf.new;
-    }) (record {
-      written_before = K.written out.old;
-      written_after = K.written out.new;
-      faults_before = K.faults out.old;
-      faults_after = K.faults out.new;
-    }) result }
+    ensures { Ends (asked words.now (F.holds shelf.old) (F.faults shelf.old) (F.faults shelf.new)) (told (K.written out.old) (K.written out.new) (K.faults out.old) (K.faults out.new)) result }
 {
     run_alone(alloc, words, shelf, out)
 }
