@@ -3,8 +3,22 @@
 #![tactic(auto)]
 
 #[cfg(test)]
+mod ask;
+#[cfg(test)]
+mod cert;
+#[cfg(test)]
 mod counter;
 #[cfg(test)]
 mod form;
 #[cfg(test)]
+mod houdini;
+#[cfg(test)]
 mod nums;
+#[cfg(test)]
+mod pool;
+#[cfg(test)]
+mod reduce;
+#[cfg(test)]
+mod simplex;
+#[cfg(test)]
+mod templates;

@@ -1,58 +1,70 @@
 // Files and output, in memory and outside.
 
+use chc_nums::NoMemory;
 use sol_outside::{
     FileShelf, Gate, MemShelf, MemSink, OpenGate, Shelf, ShelfFault, Sink, SinkFault, StdSink,
 };
-use std::alloc::{AllocError, Global};
+use std::alloc::Global;
 use std::fs;
 use std::test::Fail;
 
-fn files(alloc: Global) -> Result<Vec<(String, Vec<u8>)>, AllocError> {
+fn files(alloc: Global) -> Result<Vec<(String, Vec<u8>)>, NoMemory> {
     let mut files = Vec::new(alloc);
     let bytes = Vec::from_slice(alloc, b"abc")?;
     files.push((String::from_str(alloc, "a.sol")?, bytes))?;
     Ok(files)
 }
 
-fn is(read: Result<Vec<u8>, ShelfFault>, want: &[u8]) -> bool {
+// Whether a read gives these bytes.
+fn gives(read: Result<Vec<u8>, ShelfFault>, want: &[u8]) -> Result<bool, NoMemory> {
     match read {
-        Ok(bytes) => bytes.as_slice() == want,
-        Err(_) => false,
+        Ok(bytes) => Ok(bytes.as_slice() == want),
+        Err(ShelfFault::NoMemory) => Err(NoMemory),
+        Err(_) => Ok(false),
     }
 }
 
-fn fails(read: Result<Vec<u8>, ShelfFault>, want: ShelfFault) -> bool {
+// Whether a read fails so.
+fn fails(read: Result<Vec<u8>, ShelfFault>, want: ShelfFault) -> Result<bool, NoMemory> {
     match read {
-        Ok(_) => false,
-        Err(fault) => fault == want,
+        Ok(_) => Ok(false),
+        Err(ShelfFault::NoMemory) => Err(NoMemory),
+        Err(fault) => Ok(fault == want),
+    }
+}
+
+// Whether a put writes all, or fails where that is wanted.
+fn ends(put: Result<(), SinkFault>, is_whole: bool) -> Result<bool, NoMemory> {
+    match put {
+        Ok(()) => Ok(is_whole),
+        Err(SinkFault::NoMemory) => Err(NoMemory),
+        Err(SinkFault::Failed) => Ok(!is_whole),
     }
 }
 
 // Files in memory, of which one read fails.
-fn has_files(alloc: Global) -> Result<bool, AllocError> {
+fn has_files(alloc: Global) -> Result<bool, NoMemory> {
     let failing = Vec::from_slice(alloc, &[2u32])?;
     let mut shelf = MemShelf::new(files(alloc)?, failing);
+    let long = ShelfFault::TooLong { max: 2 };
     Ok(
-        is(shelf.read(alloc, "a.sol", 3), b"abc")
-            && fails(
-                shelf.read(alloc, "a.sol", 2),
-                ShelfFault::TooLong { max: 2 },
-            )
-            && fails(shelf.read(alloc, "a.sol", 3), ShelfFault::Failed)
-            && fails(shelf.read(alloc, "b.sol", 3), ShelfFault::Failed)
-            && is(shelf.read(alloc, "a.sol", 9), b"abc")
+        gives(shelf.read(alloc, "a.sol", 3), b"abc")?
+            && fails(shelf.read(alloc, "a.sol", 2), long)?
+            && fails(shelf.read(alloc, "a.sol", 3), ShelfFault::Failed)?
+            && fails(shelf.read(alloc, "b.sol", 3), ShelfFault::Failed)?
+            && gives(shelf.read(alloc, "a.sol", 9), b"abc")?
             && shelf.faults == 2,
     )
 }
 
 // Output in memory, of which one put fails after two bytes.
-fn has_output(alloc: Global) -> Result<bool, AllocError> {
+fn has_output(alloc: Global) -> Result<bool, NoMemory> {
     let failing = Vec::from_slice(alloc, &[(1u32, 2u32)])?;
     let mut sink = MemSink::new(alloc, failing);
     Ok(
-        sink.put(b"one").is_ok()
-            && sink.put(b"two") == Err(SinkFault::Failed)
-            && sink.put(b"!").is_ok()
+        ends(sink.put(b"one"), true)?
+            && ends(sink.put(b"two"), false)?
+            && ends(sink.put(b"!"), true)?
             && sink.written() == b"onetw!".as_slice()
             && sink.faults == 1,
     )
@@ -66,27 +78,27 @@ fn files_and_output_in_memory(rt: HostRuntime) -> Result<(), Fail> {
     Ok(())
 }
 
-fn reads(rt: &HostRuntime) -> bool {
+fn has_outside_files(rt: &HostRuntime) -> Result<bool, NoMemory> {
     let alloc = rt.alloc();
     let mut shelf = FileShelf::new(rt);
-    is(shelf.read(alloc, "long.sol", 14), b"contract C { }")
-        && fails(
-            shelf.read(alloc, "long.sol", 13),
-            ShelfFault::TooLong { max: 13 },
-        )
-        && fails(shelf.read(alloc, "none.sol", 14), ShelfFault::Failed)
-        && shelf.faults == 1
+    let long = ShelfFault::TooLong { max: 13 };
+    Ok(
+        gives(shelf.read(alloc, "long.sol", 14), b"contract C { }")?
+            && fails(shelf.read(alloc, "long.sol", 13), long)?
+            && fails(shelf.read(alloc, "none.sol", 14), ShelfFault::Failed)?
+            && shelf.faults == 1,
+    )
 }
 
-fn writes(rt: &HostRuntime) -> bool {
+fn has_outside_output(rt: &HostRuntime) -> Result<bool, NoMemory> {
     let mut sink = StdSink::new(rt);
-    sink.put(b"").is_ok() && sink.put(b"written\n").is_ok() && sink.faults == 0
+    Ok(ends(sink.put(b""), true)? && ends(sink.put(b"written\n"), true)? && sink.faults == 0)
 }
 
 #[test]
 fn files_and_output_outside(rt: HostRuntime) -> Result<(), Fail> {
     fs::write(&rt, "long.sol", "contract C { }")?;
-    let is_right = reads(&rt) && writes(&rt);
+    let is_right = has_outside_files(&rt)? && has_outside_output(&rt)?;
     assert!(rt; is_right);
     Ok(())
 }
