@@ -2,6 +2,7 @@
 
 ghost use Rattle.std.specs.Prelude.{◌≡◌, ◌++◌, map, IfOk, OnOk};
 ghost use Rattle.sol_script.specs.ScriptText.{joined, call_lines, reply_lines, script_lines};
+ghost use Rattle.sol_script.specs.Told.{script_text};
 
 use crate::words::{answer_line, call_line, deploy_line, ended};
 use chc_nums::{List, Name, NoMemory};
@@ -17,6 +18,19 @@ pub fn lines(alloc: Global, p: &Program, s: &Script) -> Result<List<Name>, NoMem
     add_calls(alloc, s.calls.as_slice(), p, &mut all)?;
     all.push(ended(alloc, "end")?)?;
     Ok(all)
+}
+
+/// The text of a script: its lines, one after another.
+#[tactic(auto, unfolding(crate::specs::Told::script_text))]
+pub fn print(alloc: Global, p: &Program, s: &Script) -> Result<Vec<u8>, NoMemory>
+    ensures { IfOk result (λ text. text.items ≡ script_text p.now s.now) }
+{
+    let all = lines(alloc, p, s)?;
+    let mut text = Vec::new(alloc);
+    for line in all.as_slice() {
+        text.extend_from_slice(line.as_str().as_bytes())?;
+    }
+    Ok(text)
 }
 
 #[cycle(lines)]
