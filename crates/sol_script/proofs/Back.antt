@@ -10,7 +10,7 @@ use lib.IntN.{ℤ}
 use Rattle.sol_core.specs.declared.Answer.{Answer}
 use Rattle.sol_core.specs.declared.Program.{Program}
 use Rattle.sol_core.specs.declared.Script.{Script}
-use Rattle.sol_core.specs.declared.Call.{Call, Call-F, out-Call, roll-Call}
+use Rattle.sol_core.specs.declared.Call.{Call, Call-F, out-Call, roll-Call, roll-out-Call}
 use Rattle.sol_core.specs.declared.Reply.{Reply, Reply-F, out-Reply, roll-Reply}
 use Rattle.sol_core.specs.Doors.{door}
 use Rattle.sol_script.specs.declared.line.Line.{Line}
@@ -18,13 +18,14 @@ use Rattle.sol_script.specs.declared.line.Line.TheVariants as line
 use Rattle.sol_script.specs.declared.reading.Level.{Level}
 use Rattle.sol_script.specs.declared.reading.Reading.{Reading}
 use Rattle.sol_script.specs.declared.fault.ScriptTextFault.{ScriptTextFault}
+use Rattle.sol_script.specs.declared.fault.ScriptTextFault.TheVariants as fault
 use Rattle.sol_script.specs.Lines.{is_short, said}
 use Rattle.sol_script.specs.Pieces.{ended, tail}
 use Rattle.sol_script.specs.Reading.{apart, before_pair, plain_call, replied, begun, calls_of, with_call, with_level, with_answer, opened, answered, line_read, by_line, then_read, read_lines, read_first, read_whole, read_script, closed, if_last}
 use Rattle.sol_script.specs.ScriptText.{joined}
 use Rattle.sol_script.specs.Told.{is_short_answer, within, is_told_call, is_told_reply, is_told, script_text}
 use Rattle.sol_script.proofs.Pieces.{glued, glued-ended}
-use Rattle.sol_script.proofs.Lines.{words_of, is_fine, Spells, said-spells}
+use Rattle.sol_script.proofs.Spelling.{words_of, is_fine, Spells, said-spells}
 use Rattle.sol_script.proofs.Raw.{raw_line, raw_call, raw_reply, raw_calls, raw_replies, raw_script, raw-call, raw-reply, raw_calls-append, raw_replies-append, script-glued}
 use Rattle.sol_script.proofs.Forth.{told-call, told-reply}
 
@@ -48,7 +49,7 @@ module _ (p : Program) where
   raw-plain d sender args = raw-call p (record { fun = d; sender = sender; args = args; replies = [] })
 
   raw-own : (c : Call) → raw_call p c ≡ raw_line p (line.Call (Some (out-Call c).fun) (out-Call c).sender (out-Call c).args) ∷ raw_replies p (out-Call c).replies
-  raw-own c = raw-call p (out-Call c)
+  raw-own c = ap (raw_call p) (sym (roll-out-Call c)) ∙ raw-call p (out-Call c)
 
   raw-replied : (c : Call) (x : Reply) → raw_call p (replied c x) ≡ raw_call p c ++ raw_reply p x
   raw-replied c x =
@@ -71,27 +72,27 @@ module _ (p : Program) where
       let own : r.calls ++ c ∷ [] ≡ calls_of r = ap (λ o. r.calls ++ option_to_list o) (sym e) in
       let shut : List (List ℕ) = raw_line p line.Reply ∷ [] in
       ap (λ ls. raw_line p (line.Deploy r.sender r.args) ∷ ls)
-        (append-nil (levels_raw (r.levels ++ l ∷ [])) ∙ levels_raw-append r.levels (l ∷ []) ∙ ap (λ ls. levels_raw r.levels ++ ls) (append-nil (level_raw l) ∙ ap (λ cs. raw_calls p cs ++ shut) own) ∙ sym (append_assoc (levels_raw r.levels) (raw_calls p (calls_of r)) shut))
+      (append-nil (levels_raw (r.levels ++ l ∷ [])) ∙ levels_raw-append r.levels (l ∷ []) ∙ ap (λ ls. levels_raw r.levels ++ ls) (append-nil (level_raw l) ∙ ap (λ cs. raw_calls p cs ++ shut) own) ∙ sym (append_assoc (levels_raw r.levels) (raw_calls p (calls_of r)) shut))
 
   answer-raw : (r : Reading) (outer : List Level) (l : Level) (a : Answer) → r.levels ≡ outer ++ l ∷ [] → reading_raw (with_answer r (outer, l) a) ≡ reading_raw r ++ raw_line p (line.Answer a) ∷ []
   answer-raw r outer l a e =
       let x : Reply = roll-Reply (record { calls = calls_of r; answer = a }) in
-      let open : List (List ℕ) = raw_line p line.Reply ∷ [] in
+      let begin : List (List ℕ) = raw_line p line.Reply ∷ [] in
       let shut : List (List ℕ) = raw_line p (line.Answer a) ∷ [] in
       let inner : List (List ℕ) = raw_calls p (calls_of r) in
       let before : List (List ℕ) = raw_calls p (l.before ++ l.last ∷ []) in
-      let body : raw_calls p (l.before ++ replied l.last x ∷ []) ≡ (before ++ open) ++ (inner ++ shut) =
-            calls-last l.before (replied l.last x) ∙ ap (λ ls. raw_calls p l.before ++ ls) (raw-replied l.last x)
-            ∙ sym (append_assoc (raw_calls p l.before) (raw_call p l.last) (raw_reply p x)) ∙ ap (λ ls. ls ++ raw_reply p x) (sym (calls-last l.before l.last))
-            ∙ ap (λ ls. before ++ ls) (raw-reply p (record { calls = calls_of r; answer = a }))
-            ∙ sym (append_assoc before open (inner ++ shut)) in
-      let level : levels_raw r.levels ≡ levels_raw outer ++ (before ++ open) = ap levels_raw e ∙ levels_raw-append outer (l ∷ []) ∙ ap (λ ls. levels_raw outer ++ ls) (append-nil (level_raw l)) in
+      let body : raw_calls p (l.before ++ replied l.last x ∷ []) ≡ (before ++ begin) ++ (inner ++ shut) =
+      calls-last l.before (replied l.last x) ∙ ap (λ ls. raw_calls p l.before ++ ls) (raw-replied l.last x)
+      ∙ sym (append_assoc (raw_calls p l.before) (raw_call p l.last) (raw_reply p x)) ∙ ap (λ ls. ls ++ raw_reply p x) (sym (calls-last l.before l.last))
+      ∙ ap (λ ls. before ++ ls) (raw-reply p (record { calls = calls_of r; answer = a }))
+      ∙ sym (append_assoc before begin (inner ++ shut)) in
+      let level : levels_raw r.levels ≡ levels_raw outer ++ (before ++ begin) = ap levels_raw e ∙ levels_raw-append outer (l ∷ []) ∙ ap (λ ls. levels_raw outer ++ ls) (append-nil (level_raw l)) in
       ap (λ ls. raw_line p (line.Deploy r.sender r.args) ∷ ls)
-        (ap (λ ls. levels_raw outer ++ ls) body ∙ sym (append_assoc (levels_raw outer) (before ++ open) (inner ++ shut)) ∙ ap (λ ls. ls ++ (inner ++ shut)) (sym level) ∙ sym (append_assoc (levels_raw r.levels) inner shut))
+      (ap (λ ls. levels_raw outer ++ ls) body ∙ sym (append_assoc (levels_raw outer) (before ++ begin) (inner ++ shut)) ∙ ap (λ ls. ls ++ (inner ++ shut)) (sym level) ∙ sym (append_assoc (levels_raw r.levels) inner shut))
 
   -- ---- what is told so far
 
-  told_at : ℕ → List Level → List Call → Bool
+  abbrev told_at : ℕ → List Level → List Call → Bool
   told_at k [] cs = within k (map (is_told_call p) cs)
   told_at zero (l ∷ ls) cs = false
   told_at (suc k) (l ∷ ls) cs = within (suc k) (map (is_told_call p) (l.before ++ l.last ∷ [])) && told_at k ls cs
@@ -113,7 +114,7 @@ module _ (p : Program) where
 
   told-replied : (k : ℕ) (c : Call) (x : Reply) → is_told_call p c k ≡ true → is_told_reply p x k ≡ true → is_told_call p (replied c x) k ≡ true
   told-replied k c x h i =
-      let q = and_parts (is_some (door p (out-Call c).fun) && (is_short (out-Call c).sender && list_all is_short (out-Call c).args)) (within k (map (is_told_reply p) (out-Call c).replies)) (sym (told-call p (out-Call c) k) ∙ h) in
+      let q = and_parts (is_some (door p (out-Call c).fun) && (is_short (out-Call c).sender && list_all is_short (out-Call c).args)) (within k (map (is_told_reply p) (out-Call c).replies)) (sym (told-call p (out-Call c) k) ∙ ap (λ d. is_told_call p d k) (roll-out-Call c) ∙ h) in
       told-call p (record { fun = (out-Call c).fun; sender = (out-Call c).sender; args = (out-Call c).args; replies = (out-Call c).replies ++ x ∷ [] }) k
       ∙ and_from (is_some (door p (out-Call c).fun) && (is_short (out-Call c).sender && list_all is_short (out-Call c).args)) (within k (map (is_told_reply p) ((out-Call c).replies ++ x ∷ []))) q.0 (within-replies k (out-Call c).replies x q.1 i)
 
@@ -150,31 +151,34 @@ module _ (p : Program) where
 
   -- ---- line by line
 
-  apart-append : (ls : List Level) (outer : List Level) (l : Level) → apart ls ≡ Some (outer, l) → ls ≡ outer ++ l ∷ []
-  apart-append [] outer l e = absurd (cc)
-  apart-append (x ∷ xs) outer l e = step (apart xs) refl e
+  apart-none : (ys : List Level) → apart ys ≡ None → ys ≡ []
+  apart-none [] g = refl
+  apart-none (y ∷ ys) g = some (apart ys) g
     where
-      step : (o : Option (List Level × Level)) → apart xs ≡ o → before_pair x o ≡ Some (outer, l) → x ∷ xs ≡ outer ++ l ∷ []
-      step None q f = none xs q f
-        where
-          none : (ys : List Level) → apart ys ≡ None → Some ([], x) ≡ Some (outer, l) → x ∷ ys ≡ outer ++ l ∷ []
-          none [] g f = let a : [] ≡ outer = cc in let b : x ≡ l = cc in subst (λ o. x ∷ [] ≡ o ++ l ∷ []) a (ap (λ y. y ∷ []) b)
-          none (y ∷ ys) g f = some (apart ys) g
-            where
-              some : (o : Option (List Level × Level)) → before_pair y o ≡ None → x ∷ y ∷ ys ≡ outer ++ l ∷ []
-              some None h = absurd (cc)
-              some (Some (a, b)) h = absurd (cc)
-      step (Some (front, last)) q f =
-          let a : x ∷ front ≡ outer = cc in
-          let b : last ≡ l = cc in
-          ap (λ ys. x ∷ ys) (apart-append xs front last q) ∙ ap (λ o. o ++ last ∷ []) a ∙ ap (λ y. outer ++ y ∷ []) b
+      some : (o : Option (List Level × Level)) → before_pair y o ≡ None → y ∷ ys ≡ []
+      some None h = absurd (cc)
+      some (Some (a, b)) h = absurd (cc)
+
+  -- a front and a last one, put together again
+  whole : List Level → Option (List Level × Level) → List Level
+  whole d None = d
+  whole d (Some (front, last)) = front ++ last ∷ []
+
+  apart-append : (ls : List Level) (outer : List Level) (l : Level) → apart ls ≡ Some (outer, l) → ls ≡ outer ++ l ∷ []
+  unfolding whole
+  apart-append [] outer l e = absurd (cc)
+  apart-append (x ∷ xs) outer l e = step (apart xs) refl e (apart-append xs)
+    where
+      step : (o : Option (List Level × Level)) → apart xs ≡ o → before_pair x o ≡ Some (outer, l) → ((front : List Level) (last : Level) → apart xs ≡ Some (front, last) → xs ≡ front ++ last ∷ []) → x ∷ xs ≡ outer ++ l ∷ []
+      step None q f rest = ap (λ ys. x ∷ ys) (apart-none xs q) ∙ ap (whole []) f
+      step (Some (front, last)) q f rest = ap (λ ys. x ∷ ys) (rest front last q) ∙ ap (whole []) f
 
   record Told (r : Reading) (ls : List (List ℕ)) (rest : List ℕ) (s : Script) : Type 0 where
     lines : raw_script p s ≡ reading_raw r ++ ls
     none : rest ≡ []
     told : is_told p s ≡ true
 
-  Good : Reading → Type 0
+  abbrev Good : Reading → Type 0
   Good r = ((is_short r.sender && list_all is_short r.args) ≡ true) × (told_at 128 r.levels (calls_of r) ≡ true)
 
   -- one line and then the others
@@ -182,20 +186,25 @@ module _ (p : Program) where
   onward r q l raw ls rest s e g t = record {
     lines = t.lines ∙ ap (λ x. x ++ ls) g ∙ append_assoc (reading_raw r) (raw ∷ []) ls ∙ ap (λ x. reading_raw r ++ x ∷ ls) (sym e);
     none = t.none;
-    told = t.told }
+    told = t.told;
+  }
 
   lines-told : (ls : List (List ℕ)) (rest : List ℕ) (n : ℕ) (r : Reading) (s : Script) → Good r → read_lines p ls rest n r ≡ Ok s → Told r ls rest s
   unfolding read_lines
   lines-told [] rest n r s good e = absurd (cc)
-  lines-told (t ∷ ls) rest n r s good e = step (said p t) refl e
+  lines-told (t ∷ ls) rest n r s good e = step (said p t) refl e (λ q g f. lines-told ls rest (suc n) q s g f)
     where
+      Again : Type 0
+      Again = (q : Reading) → Good q → read_lines p ls rest (suc n) q ≡ Ok s → Told q ls rest s
+
       last-told : (ms : List (List ℕ)) (left : List ℕ) (v : Script) → t ≡ raw_line p line.End → r.levels ≡ [] → if_last n ms left (record { sender = r.sender; args = r.args; calls = calls_of r }) ≡ Ok v → Told r (t ∷ ms) left v
       last-told [] [] v spell levels f =
           let same : record { sender = r.sender; args = r.args; calls = calls_of r } ≡ v = cc in
           subst (Told r (t ∷ []) []) same (record {
             lines = ap (λ x. raw_line p (line.Deploy r.sender r.args) ∷ (levels_raw x ++ raw_calls p (calls_of r)) ++ raw_line p line.End ∷ []) (sym levels) ∙ ap (λ x. reading_raw r ++ x ∷ []) (sym spell);
             none = refl;
-            told = and_from (is_short r.sender && list_all is_short r.args) (within 128 (map (is_told_call p) (calls_of r))) good.0 (ap (λ x. told_at 128 x (calls_of r)) (sym levels) ∙ good.1) })
+            told = and_from (is_short r.sender && list_all is_short r.args) (within 128 (map (is_told_call p) (calls_of r))) good.0 (ap (λ x. told_at 128 x (calls_of r)) (sym levels) ∙ good.1);
+          })
       last-told [] (b ∷ bs) v spell levels f = absurd (cc)
       last-told (m ∷ ms) left v spell levels f = absurd (cc)
 
@@ -203,36 +212,36 @@ module _ (p : Program) where
       end-told [] q spell f = last-told ls rest s spell q f
       end-told (x ∷ xs) q spell f = absurd (cc)
 
-      reply-told : (o : Option Call) → r.last ≡ o → t ≡ raw_line p line.Reply → then_read (opened n r o) (read_lines p ls rest (suc n)) ≡ Ok s → Told r (t ∷ ls) rest s
-      reply-told None q spell f = absurd (cc)
-      reply-told (Some c) q spell f = room (nat_lt (length r.levels) 128) refl f
+      reply-told : (o : Option Call) → r.last ≡ o → t ≡ raw_line p line.Reply → then_read (opened n r o) (read_lines p ls rest (suc n)) ≡ Ok s → Again → Told r (t ∷ ls) rest s
+      reply-told None q spell f again = absurd (cc)
+      reply-told (Some c) q spell f again = room (nat_lt (length r.levels) 128) refl f
         where
-          room : (b : Bool) → nat_lt (length r.levels) 128 ≡ b → then_read (if b then Ok (with_level r c) else Err _) (read_lines p ls rest (suc n)) ≡ Ok s → Told r (t ∷ ls) rest s
+          room : (b : Bool) → nat_lt (length r.levels) 128 ≡ b → then_read (if b then Ok (with_level r c) else Err (fault.TooDeep n)) (read_lines p ls rest (suc n)) ≡ Ok s → Told r (t ∷ ls) rest s
           room false less g = absurd (cc)
           room true less g =
               let own : calls_of r ≡ r.calls ++ c ∷ [] = ap (λ o. r.calls ++ option_to_list o) q in
               onward r (with_level r c) t (raw_line p line.Reply) ls rest s spell (level-raw r c q)
-                (lines-told ls rest (suc n) (with_level r c) s (good.0, level-told 128 r.levels r.calls c (less-true (length r.levels) 128 less) (ap (told_at 128 r.levels) (sym own) ∙ good.1)) g)
+              (again (with_level r c) (good.0, level-told 128 r.levels r.calls c (less-true (length r.levels) 128 less) (ap (told_at 128 r.levels) (sym own) ∙ good.1)) g)
 
-      answer-told-so : (a : Answer) (o : Option (List Level × Level)) → apart r.levels ≡ o → t ≡ raw_line p (line.Answer a) → is_short_answer a ≡ true → then_read (answered n r a o) (read_lines p ls rest (suc n)) ≡ Ok s → Told r (t ∷ ls) rest s
-      answer-told-so a None q spell fine f = absurd (cc)
-      answer-told-so a (Some (outer, l)) q spell fine f =
+      answer-told-so : (a : Answer) (o : Option (List Level × Level)) → apart r.levels ≡ o → t ≡ raw_line p (line.Answer a) → is_short_answer a ≡ true → then_read (answered n r a o) (read_lines p ls rest (suc n)) ≡ Ok s → Again → Told r (t ∷ ls) rest s
+      answer-told-so a None q spell fine f again = absurd (cc)
+      answer-told-so a (Some (outer, l)) q spell fine f again =
           let levels = apart-append r.levels outer l q in
           onward r (with_answer r (outer, l) a) t (raw_line p (line.Answer a)) ls rest s spell (answer-raw r outer l a levels)
-            (lines-told ls rest (suc n) (with_answer r (outer, l) a) s (good.0, answer-told 128 outer l (calls_of r) a fine (ap (λ x. told_at 128 x (calls_of r)) (sym levels) ∙ good.1)) f)
+          (again (with_answer r (outer, l) a) (good.0, answer-told 128 outer l (calls_of r) a fine (ap (λ x. told_at 128 x (calls_of r)) (sym levels) ∙ good.1)) f)
 
-      step : (o : Option Line) → said p t ≡ o → by_line n ls rest r (read_lines p ls rest (suc n)) o ≡ Ok s → Told r (t ∷ ls) rest s
-      step None q f = absurd (cc)
-      step (Some (line.Deploy sender args)) q f = absurd (cc)
-      step (Some (line.Call None sender args)) q f = absurd (cc)
-      step (Some (line.Call (Some d) sender args)) q f =
+      step : (o : Option Line) → said p t ≡ o → by_line n ls rest r (read_lines p ls rest (suc n)) o ≡ Ok s → Again → Told r (t ∷ ls) rest s
+      step None q f again = absurd (cc)
+      step (Some (line.Deploy sender args)) q f again = absurd (cc)
+      step (Some (line.Call None sender args)) q f again = absurd (cc)
+      step (Some (line.Call (Some d) sender args)) q f again =
           let spell = said-spells p t (line.Call (Some d) sender args) q in
           let c : Call = plain_call d sender args in
           onward r (with_call r c) t (raw_line p (line.Call (Some d) sender args)) ls rest s spell.0 (call-raw r d sender args)
-            (lines-told ls rest (suc n) (with_call r c) s (good.0, call-told 128 r.levels (calls_of r) d sender args spell.1 good.1) f)
-      step (Some line.Reply) q f = reply-told r.last refl (said-spells p t line.Reply q) f
-      step (Some (line.Answer a)) q f = let spell = said-spells p t (line.Answer a) q in answer-told-so a (apart r.levels) refl spell.0 spell.1 f
-      step (Some line.End) q f = end-told r.levels refl (said-spells p t line.End q) f
+          (again (with_call r c) (good.0, call-told 128 r.levels (calls_of r) d sender args spell.1 good.1) f)
+      step (Some line.Reply) q f again = reply-told r.last refl (said-spells p t line.Reply q) f again
+      step (Some (line.Answer a)) q f again = let spell = said-spells p t (line.Answer a) q in answer-told-so a (apart r.levels) refl spell.0 spell.1 f again
+      step (Some line.End) q f again = end-told r.levels refl (said-spells p t line.End q) f
 
   whole-told : (ls : List (List ℕ)) (rest : List ℕ) (s : Script) → read_whole p ls rest ≡ Ok s → (raw_script p s ≡ ls) × (rest ≡ []) × (is_told p s ≡ true)
   whole-told [] rest s e = absurd (cc)
@@ -253,4 +262,4 @@ module _ (p : Program) where
   unfolding read_script
   told-text text s e =
       let h = whole-told (ended 10 text) (tail 10 text) s e in
-      (sym (glued-ended 10 text) ∙ ap (glued 10 (ended 10 text)) h.1.0 ∙ ap (λ ls. glued 10 ls []) (sym h.0) ∙ sym (script-glued p s), h.1.1)
+      (sym (glued-ended 10 text) ∙ ap (glued 10 (ended 10 text)) h.1 ∙ ap (λ ls. glued 10 ls []) (sym h.0) ∙ sym (script-glued p s), h.2)

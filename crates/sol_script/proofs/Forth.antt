@@ -1,7 +1,7 @@
 -- From a script to its text and back.
 use Rattle.std.proofs.Common.{◌≡◌, ◌∙◌, refl, sym, ap, subst, ℕ, zero, suc, ◌+◌, ◌<◌, List, [], ◌∷◌, ◌++◌, length, map, Option, Some, None, Result, Ok, Err, Bool, true, false, ◌&&◌, arith}
 use Rattle.std.proofs.lemmas.List.{append_assoc, append-nil}
-use Rattle.std.proofs.lemmas.List.Length.{length-append}
+use Rattle.std.proofs.lemmas.List.{length-append}
 use Rattle.std.proofs.lemmas.Bool.{and_parts, and_from}
 use Rattle.std.specs.Prelude.{nat_lt, option_to_list}
 use Rattle.std.specs.List.{list_all}
@@ -11,7 +11,7 @@ use lib.IntN.{ℤ}
 use Rattle.sol_core.specs.declared.Answer.{Answer}
 use Rattle.sol_core.specs.declared.Program.{Program}
 use Rattle.sol_core.specs.declared.Script.{Script}
-use Rattle.sol_core.specs.declared.Call.{Call, Call-F, out-Call, roll-Call, map-Call}
+use Rattle.sol_core.specs.declared.Call.{Call, Call-F, out-Call, roll-Call, map-Call, roll-out-Call, out-roll-Call}
 use Rattle.sol_core.specs.declared.Call.TheFolds.{fold-Call, fold-roll-Call, ind-Call}
 use Rattle.sol_core.specs.declared.Reply.{Reply, Reply-F, out-Reply, roll-Reply, map-Reply, fold-Reply, fold-roll-Reply}
 use Rattle.sol_core.specs.Doors.{door}
@@ -27,7 +27,7 @@ use Rattle.sol_script.specs.Reading.{apart, before_pair, plain_call, replied, be
 use Rattle.sol_script.specs.ScriptText.{joined}
 use Rattle.sol_script.specs.Told.{is_short_answer, within, call_told, reply_told, is_told_call, is_told_reply, is_told, script_text}
 use Rattle.sol_script.proofs.Pieces.{lacks, all_lack, glued, ended-line, tail-line, lacks-between}
-use Rattle.sol_script.proofs.Lines.{words_of, is_fine, said-spelled, words-lack}
+use Rattle.sol_script.proofs.Spelling.{words_of, is_fine, said-spelled, words-lack}
 use Rattle.sol_script.proofs.Raw.{raw_line, raw_call, raw_reply, raw_calls, raw_replies, raw_script, raw-call, raw-reply, script-glued}
 
 -- ---- readings
@@ -56,8 +56,11 @@ after-calls r [] = record { sender = refl; args = refl; levels = refl; calls = s
 after-calls r (c ∷ cs) = let h = after-calls (with_call r c) cs in record { sender = h.sender; args = h.args; levels = h.levels; calls = h.calls ∙ append_assoc (calls_of r) (c ∷ []) cs }
 
 replied-parts : (c : Call) (rs : List Reply) → replied_all c rs ≡ roll-Call (record { fun = (out-Call c).fun; sender = (out-Call c).sender; args = (out-Call c).args; replies = (out-Call c).replies ++ rs })
-replied-parts c [] = ap (λ rs. roll-Call (record { fun = (out-Call c).fun; sender = (out-Call c).sender; args = (out-Call c).args; replies = rs })) (sym (append-nil (out-Call c).replies))
-replied-parts c (x ∷ xs) = replied-parts (replied c x) xs ∙ ap (λ rs. roll-Call (record { fun = (out-Call c).fun; sender = (out-Call c).sender; args = (out-Call c).args; replies = rs })) (append_assoc (out-Call c).replies (x ∷ []) xs)
+replied-parts c [] = sym (roll-out-Call c) ∙ ap (λ rs. roll-Call (record { fun = (out-Call c).fun; sender = (out-Call c).sender; args = (out-Call c).args; replies = rs })) (sym (append-nil (out-Call c).replies))
+replied-parts c (x ∷ xs) =
+    replied-parts (replied c x) xs
+    ∙ ap (λ (o : Call-F Call Reply). roll-Call (record { fun = o.fun; sender = o.sender; args = o.args; replies = o.replies ++ xs })) (out-roll-Call (record { fun = (out-Call c).fun; sender = (out-Call c).sender; args = (out-Call c).args; replies = (out-Call c).replies ++ x ∷ [] }))
+    ∙ ap (λ rs. roll-Call (record { fun = (out-Call c).fun; sender = (out-Call c).sender; args = (out-Call c).args; replies = rs })) (append_assoc (out-Call c).replies (x ∷ []) xs)
 
 pub apart-last : {A : Type 0} (xs : List A) (x : A) → apart (xs ++ x ∷ []) ≡ Some (xs, x)
 apart-last [] x = refl
@@ -88,14 +91,14 @@ module _ (p : Program) (doors : are_doors p p.doors ≡ true) where
   raw-lacks l fine = lacks-between 10 32 (words_of p l) refl (words-lack p 10 (omega arith) doors l fine)
 
   -- some lines lead from one reading to another
-  Runs : List (List ℕ) → Reading → Reading → Type 0
+  abbrev Runs : List (List ℕ) → Reading → Reading → Type 0
   Runs raw r s = (ls : List (List ℕ)) (rest : List ℕ) (n : ℕ) → (m : ℕ) × (read_lines p (raw ++ ls) rest n r ≡ read_lines p ls rest m s)
 
-  runs-append : (as bs : List (List ℕ)) (r s t : Reading) → Runs as r s → Runs bs s t → Runs (as ++ bs) r t
-  runs-append as bs r s t h k ls rest n =
-      let a = h (bs ++ ls) rest n in
+  runs-append : (ps qs : List (List ℕ)) (r s t : Reading) → Runs ps r s → Runs qs s t → Runs (ps ++ qs) r t
+  runs-append ps qs r s t h k ls rest n =
+      let a = h (qs ++ ls) rest n in
       let b = k ls rest a.0 in
-      (b.0, ap (λ x. read_lines p x rest n r) (append_assoc as bs ls) ∙ a.1 ∙ b.1)
+      (b.0, ap (λ x. read_lines p x rest n r) (append_assoc ps qs ls) ∙ a.1 ∙ b.1)
 
   read-by : (l : Line) (ls : List (List ℕ)) (rest : List ℕ) (n : ℕ) (r : Reading) → is_fine p l ≡ true → read_lines p (raw_line p l ∷ ls) rest n r ≡ by_line n ls rest r (read_lines p ls rest (suc n)) (Some l)
   unfolding read_lines
@@ -123,14 +126,14 @@ module _ (p : Program) (doors : are_doors p p.doors ≡ true) where
   same-reading r c e = ap (λ o. record { sender = r.sender; args = r.args; levels = r.levels; calls = r.calls; last = o }) (sym e)
 
   replies-run : (xs : List ((x : Reply) × ReplyGood x)) (k : ℕ) (r : Reading) (c : Call) → within k (map (is_told_reply p) (map (λ x. x.0) xs)) ≡ true → length r.levels + k ≡ 128 → r.last ≡ Some c → Runs (raw_replies p (map (λ x. x.0) xs)) r (with_reply r (replied_all c (map (λ x. x.0) xs)))
-  replies-run [] k r c h deep e ls rest n = (n, ap (read_lines p ls rest n) (sym (same-reading r c e)))
+  replies-run [] k r c h deep e = λ ls rest n. (n, ap (read_lines p ls rest n) (sym (same-reading r c e)))
   replies-run (x ∷ xs) k r c h deep e =
       let q = and_parts (is_told_reply p x.0 k) (within k (map (is_told_reply p) (map (λ y. y.0) xs))) h in
       let s : Reading = with_reply r (replied c x.0) in
       runs-append (raw_reply p x.0) (raw_replies p (map (λ y. y.0) xs)) r s (with_reply r (replied_all c (map (λ y. y.0) (x ∷ xs)))) ((x.1 k q.0).1 r c deep e) (replies-run xs k s (replied c x.0) q.1 deep refl)
 
   calls-run : (cs : List ((c : Call) × CallGood c)) (k : ℕ) (r : Reading) → within k (map (is_told_call p) (map (λ c. c.0) cs)) ≡ true → length r.levels + k ≡ 128 → Runs (raw_calls p (map (λ c. c.0) cs)) r (with_calls r (map (λ c. c.0) cs))
-  calls-run [] k r h deep ls rest n = (n, refl)
+  calls-run [] k r h deep = λ ls rest n. (n, refl)
   calls-run (c ∷ cs) k r h deep =
       let q = and_parts (is_told_call p c.0 k) (within k (map (is_told_call p) (map (λ d. d.0) cs))) h in
       let s : Reading = with_call r c.0 in
@@ -153,11 +156,12 @@ module _ (p : Program) (doors : are_doors p p.doors ≡ true) where
       let l : Line = line.Call (Some y.fun) y.sender y.args in
       let lines : raw_call p (roll-Call x) ≡ (raw_line p l ∷ []) ++ raw_replies p rs = raw-call p x in
       let c : Call = plain_call y.fun y.sender y.args in
-      let whole : replied_all c rs ≡ roll-Call x = replied-parts c rs in
-      (ap (all_lack 10) lines ∙ and_from (lacks 10 (raw_line p l)) (all_lack 10 (raw_replies p rs)) (raw-lacks l h.0) (replies-lack y.replies k h.1),
-       λ r deep. subst (λ z. Runs z r (with_call r (roll-Call x))) (sym lines)
-         (subst (λ z. Runs ((raw_line p l ∷ []) ++ raw_replies p rs) r (with_call r z)) whole
-           (runs-append (raw_line p l ∷ []) (raw_replies p rs) r (with_call r c) (with_reply (with_call r c) (replied_all c rs)) (call-line-runs y.fun y.sender y.args r h.0) (replies-run y.replies k (with_call r c) c h.1 deep refl))))
+      let whole : replied_all c rs ≡ roll-Call x = replied-parts c rs ∙ ap (λ (o : Call-F Call Reply). roll-Call (record { fun = o.fun; sender = o.sender; args = o.args; replies = o.replies ++ rs })) (out-roll-Call (record { fun = y.fun; sender = y.sender; args = y.args; replies = [] })) in (
+        ap (all_lack 10) lines ∙ and_from (lacks 10 (raw_line p l)) (all_lack 10 (raw_replies p rs)) (raw-lacks l h.0) (replies-lack y.replies k h.1),
+        λ r deep. subst (λ z. Runs z r (with_call r (roll-Call x))) (sym lines)
+            (subst (λ z. Runs ((raw_line p l ∷ []) ++ raw_replies p rs) r (with_call r z)) whole
+            (runs-append (raw_line p l ∷ []) (raw_replies p rs) r (with_call r c) (with_reply (with_call r c) (replied_all c rs)) (call-line-runs y.fun y.sender y.args r h.0) (replies-run y.replies k (with_call r c) c h.1 deep refl))),
+      )
 
   reply-step : (y : Reply-F ((c : Call) × CallGood c) ((x : Reply) × ReplyGood x)) → ReplyGood (roll-Reply (map-Reply ((c : Call) × CallGood c) ((x : Reply) × ReplyGood x) Call Reply (λ e. e.0) (λ e. e.0) y))
   reply-step y zero told = let x : Reply-F Call Reply = map-Reply ((c : Call) × CallGood c) ((z : Reply) × ReplyGood z) Call Reply (λ e. e.0) (λ e. e.0) y in let no = told-none p x in absurd (cc)
@@ -167,20 +171,21 @@ module _ (p : Program) (doors : are_doors p p.doors ≡ true) where
       let h = and_parts (within k (map (is_told_call p) cs)) (is_short_answer y.answer) (sym (told-reply p x k) ∙ told) in
       let first : List (List ℕ) = raw_line p line.Reply ∷ [] in
       let last : List (List ℕ) = raw_line p (line.Answer y.answer) ∷ [] in
-      let lines : raw_reply p (roll-Reply x) ≡ first ++ (raw_calls p cs ++ last) = raw-reply p x in
-      (ap (all_lack 10) lines ∙ and_from (lacks 10 (raw_line p line.Reply)) (all_lack 10 (raw_calls p cs ++ last)) (raw-lacks line.Reply refl)
-          (all_lack-append 10 (raw_calls p cs) last (calls-lack y.calls k h.0) (and_from (lacks 10 (raw_line p (line.Answer y.answer))) true (raw-lacks (line.Answer y.answer) h.1) refl)),
-       λ r c deep e.
-         let s : Reading = with_level r c in
-         let l : Level = record { before = r.calls; last = c } in
-         let grown : length (r.levels ++ l ∷ []) + k ≡ 128 = omega (arith, length-append r.levels (l ∷ []), deep) in
-         let t : Reading = with_calls s cs in
-         let a = after-calls s cs in
-         let end : with_answer t (r.levels, l) y.answer ≡ with_reply r (replied c (roll-Reply x)) = rw (a.sender, a.args, a.calls) refl in
-         subst (λ z. Runs z r (with_reply r (replied c (roll-Reply x)))) (sym lines)
-           (runs-append first (raw_calls p cs ++ last) r s (with_reply r (replied c (roll-Reply x))) (reply-line-runs r c e (omega (arith, deep)))
-             (runs-append (raw_calls p cs) last s t (with_reply r (replied c (roll-Reply x))) (calls-run y.calls k s h.0 grown)
-               (subst (Runs last t) end (answer-line-runs y.answer t r.levels l h.1 a.levels)))))
+      let lines : raw_reply p (roll-Reply x) ≡ first ++ (raw_calls p cs ++ last) = raw-reply p x in (
+        ap (all_lack 10) lines ∙ and_from (lacks 10 (raw_line p line.Reply)) (all_lack 10 (raw_calls p cs ++ last)) (raw-lacks line.Reply refl)
+            (all_lack-append 10 (raw_calls p cs) last (calls-lack y.calls k h.0) (and_from (lacks 10 (raw_line p (line.Answer y.answer))) true (raw-lacks (line.Answer y.answer) h.1) refl)),
+        λ r c deep e.
+            let s : Reading = with_level r c in
+            let l : Level = record { before = r.calls; last = c } in
+            let grown : length (r.levels ++ l ∷ []) + k ≡ 128 = omega (arith, length-append r.levels (l ∷ []), deep) in
+            let t : Reading = with_calls s cs in
+            let a = after-calls s cs in
+            let end : with_answer t (r.levels, l) y.answer ≡ with_reply r (replied c (roll-Reply x)) = rw (a.sender, a.args, a.calls) refl in
+            subst (λ z. Runs z r (with_reply r (replied c (roll-Reply x)))) (sym lines)
+            (runs-append first (raw_calls p cs ++ last) r s (with_reply r (replied c (roll-Reply x))) (reply-line-runs r c e (omega (arith, deep)))
+            (runs-append (raw_calls p cs) last s t (with_reply r (replied c (roll-Reply x))) (calls-run y.calls k s h.0 grown)
+            (subst (Runs last t) end (answer-line-runs y.answer t r.levels l h.1 a.levels)))),
+      )
 
   call-good : (c : Call) → CallGood c
   call-good = ind-Call CallGood ReplyGood (λ x y is. subst (λ z. CallGood (roll-Call z)) is (call-step y)) (λ x y is. subst (λ z. ReplyGood (roll-Reply z)) is (reply-step y))
@@ -190,6 +195,7 @@ module _ (p : Program) (doors : are_doors p p.doors ≡ true) where
   all-calls (c ∷ cs) = (c, call-good c) ∷ all-calls cs
 
   calls-back : (cs : List Call) → map (λ c. c.0) (all-calls cs) ≡ cs
+  unfolding all-calls
   calls-back [] = refl
   calls-back (c ∷ cs) = ap (λ ds. c ∷ ds) (calls-back cs)
 

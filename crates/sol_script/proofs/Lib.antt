@@ -1,8 +1,10 @@
 pub mod Back
 pub mod Forth
-pub mod Laws
+pub mod BothWays
 pub mod Layers
-pub mod Lines
+pub mod Spelling
 pub mod Numbers
 pub mod Pieces
 pub mod Raw
+pub mod Steps
+pub mod Several

@@ -18,7 +18,7 @@ use Rattle.sol_script.specs.ScriptText.{with_numbers, name_of, deploy_line, call
 use Rattle.sol_script.specs.Told.{text_of, script_text}
 use Rattle.sol_script.proofs.Pieces.{between, behind, glued}
 use Rattle.sol_script.proofs.Numbers.{with_numbers-behind}
-use Rattle.sol_script.proofs.Lines.{words_of}
+use Rattle.sol_script.proofs.Spelling.{words_of}
 
 abbrev pub raw_line : Program → Line → List ℕ
 raw_line p l = between 32 (words_of p l)
@@ -71,12 +71,12 @@ text_of-append (l ∷ ls) ms = ap (λ t. l ++ t) (text_of-append ls ms) ∙ sym 
 abbrev Feeds : List (List ℕ) → List (List ℕ) → Type 0
 Feeds ls raws = text_of ls ≡ glued 10 raws []
 
-glued-append : (as bs : List (List ℕ)) → glued 10 (as ++ bs) [] ≡ glued 10 as [] ++ glued 10 bs []
-glued-append [] bs = refl
-glued-append (a ∷ as) bs = ap (λ t. a ++ 10 ∷ t) (glued-append as bs) ∙ sym (append_assoc a (10 ∷ glued 10 as []) (glued 10 bs []))
+glued-append : (ps qs : List (List ℕ)) → glued 10 (ps ++ qs) [] ≡ glued 10 ps [] ++ glued 10 qs []
+glued-append [] qs = refl
+glued-append (p ∷ ps) qs = ap (λ t. p ++ 10 ∷ t) (glued-append ps qs) ∙ sym (append_assoc p (10 ∷ glued 10 ps []) (glued 10 qs []))
 
-feeds-append : (ls ms as bs : List (List ℕ)) → Feeds ls as → Feeds ms bs → Feeds (ls ++ ms) (as ++ bs)
-feeds-append ls ms as bs e f = text_of-append ls ms ∙ ap (λ t. t ++ text_of ms) e ∙ ap (λ t. glued 10 as [] ++ t) f ∙ sym (glued-append as bs)
+feeds-append : (ls ms ps qs : List (List ℕ)) → Feeds ls ps → Feeds ms qs → Feeds (ls ++ ms) (ps ++ qs)
+feeds-append ls ms ps qs e f = text_of-append ls ms ∙ ap (λ t. t ++ text_of ms) e ∙ ap (λ t. glued 10 ps [] ++ t) f ∙ sym (glued-append ps qs)
 
 feeds-line : (l raw : List ℕ) → l ≡ raw ++ 10 ∷ [] → Feeds (l ∷ []) (raw ∷ [])
 feeds-line l raw e = append-nil l ∙ e
@@ -124,7 +124,7 @@ module _ (p : Program) where
       let x : Reply-F Call Reply = map-Reply ((c : Call) × CallFeeds c) ((r : Reply) × ReplyFeeds r) Call Reply (λ e. e.0) (λ e. e.0) y in
       ap text_of (fold-roll-Reply (List (List ℕ)) (List (List ℕ)) (call_layer p) reply_layer x)
       ∙ feeds-cons (codes "reply\n") (raw_line p line.Reply) (joined (map (call_lines p) (map (λ c. c.0) y.calls)) ++ answer_line y.answer ∷ []) (raw_calls p (map (λ c. c.0) y.calls) ++ raw_line p (line.Answer y.answer) ∷ []) refl
-          (feeds-append (joined (map (call_lines p) (map (λ c. c.0) y.calls))) (answer_line y.answer ∷ []) (raw_calls p (map (λ c. c.0) y.calls)) (raw_line p (line.Answer y.answer) ∷ []) (calls-feed y.calls) (feeds-line (answer_line y.answer) (raw_line p (line.Answer y.answer)) (answer-feeds p y.answer)))
+      (feeds-append (joined (map (call_lines p) (map (λ c. c.0) y.calls))) (answer_line y.answer ∷ []) (raw_calls p (map (λ c. c.0) y.calls)) (raw_line p (line.Answer y.answer) ∷ []) (calls-feed y.calls) (feeds-line (answer_line y.answer) (raw_line p (line.Answer y.answer)) (answer-feeds p y.answer)))
       ∙ ap (λ raws. glued 10 raws []) (sym (raw-reply p x))
 
   call-lines : (c : Call) → CallFeeds c

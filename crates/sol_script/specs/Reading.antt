@@ -1,5 +1,5 @@
 -- The script that a text tells, or the first line that is wrong and why.
-use Rattle.std.specs.Prelude.{◌≡◌, ℕ, suc, List, [], ◌∷◌, ◌++◌, length, Option, Some, None, Result, Ok, Err, nat_lt, if◌then◌else◌, option_to_list}
+use Rattle.std.specs.Prelude.{◌≡◌, ℕ, suc, List, [], ◌∷◌, ◌++◌, length, Option, Some, None, Result, Ok, Err, Bool, true, false, nat_lt, if◌then◌else◌, option_to_list}
 use lib.IntN.{ℤ}
 use Rattle.sol_core.specs.declared.Program.{Program}
 use Rattle.sol_core.specs.declared.Script.{Script}
@@ -93,13 +93,17 @@ abbrev pub then_read : Result Reading ScriptTextFault → (Reading → Result Sc
 then_read (Ok r) go = go r
 then_read (Err e) go = Err e
 
+abbrev pub is_end : Line → Bool
+is_end (line.Deploy sender args) = false
+is_end (line.Call door sender args) = false
+is_end line.Reply = false
+is_end (line.Answer a) = false
+is_end line.End = true
+
+-- the line `end` closes the script, and any other one goes on
 abbrev pub by_line : ℕ → List (List ℕ) → List ℕ → Reading → (Reading → Result Script ScriptTextFault) → Option Line → Result Script ScriptTextFault
 by_line n ls rest r go None = Err (fault.BadLine n)
-by_line n ls rest r go (Some line.End) = closed n ls rest r r.levels
-by_line n ls rest r go (Some (line.Deploy sender args)) = then_read (line_read n r (line.Deploy sender args)) go
-by_line n ls rest r go (Some (line.Call door sender args)) = then_read (line_read n r (line.Call door sender args)) go
-by_line n ls rest r go (Some line.Reply) = then_read (line_read n r line.Reply) go
-by_line n ls rest r go (Some (line.Answer a)) = then_read (line_read n r (line.Answer a)) go
+by_line n ls rest r go (Some l) = if is_end l then closed n ls rest r r.levels else then_read (line_read n r l) go
 
 -- the lines after the deployment, the first of which has a number, and what no line feed ends
 unfoldable pub read_lines : Program → List (List ℕ) → List ℕ → ℕ → Reading → Result Script ScriptTextFault

@@ -1,6 +1,6 @@
 // What a line of a script's text says.
 
-ghost use Rattle.std.specs.Prelude.{◌≡◌, bytes_eq, IfOk};
+ghost use Rattle.std.specs.Prelude.{◌≡◌, ◌<◌, ◌^◌, length, bytes_eq, IfOk};
 ghost use Rattle.std.specs.Option.{option_copied};
 ghost use Rattle.sol_core.specs.Formed.{named};
 ghost use Rattle.sol_script.specs.Lines.{number, numbers, door_named, acting, deployed, called, alone, given, said};
@@ -31,6 +31,7 @@ fn is_word(word: &[u8], other: &str) -> bool
 }
 
 // The number that a word spells.
+#[tactic(auto, using(crate::proofs::Numbers::unread_words))]
 fn number(word: &[u8]) -> Option<i128>
     ensures { result ≡ number word.now }
 {
@@ -40,6 +41,7 @@ fn number(word: &[u8]) -> Option<i128>
     }
 }
 
+#[tactic(auto, using(crate::proofs::Numbers::unread_words))]
 fn spelled(word: &str) -> Option<i128>
     ensures { result ≡ number word.now }
 {
@@ -47,14 +49,19 @@ fn spelled(word: &str) -> Option<i128>
         Err(_) => None,
         Ok(n) => {
             let mut buffer = Buffer::new();
-            if buffer.format(n) == word { Some(n) } else { None }
+            if buffer.format(n) == word {
+                Some(n)
+            } else {
+                None
+            }
         }
     }
 }
 
 // The numbers that the words of a text spell, where there are more words.
+#[tactic(auto, using(crate::proofs::Several::several))]
 fn numbers(alloc: Global, words: Option<&[u8]>) -> Result<Option<List<i128>>, NoMemory>
-    ensures { IfOk result (λ all. all ≡ numbers (pieces_of words)) }
+    ensures { IfOk result (λ all. all ≡ numbers (pieces_of (option_copied words.entry))) }
 {
     let mut all = List::new(alloc);
     let mut rest = words;
@@ -71,7 +78,7 @@ fn numbers(alloc: Global, words: Option<&[u8]>) -> Result<Option<List<i128>>, No
 
 // Whether there is a function, and it has a name.
 fn is_named(fun: Option<&Fun>, name: &[u8]) -> bool
-    ensures { result ≡ named name.now (option_copied fun) }
+    ensures { result ≡ named name.now (option_copied fun.entry) }
 {
     match fun {
         None => false,
@@ -81,6 +88,7 @@ fn is_named(fun: Option<&Fun>, name: &[u8]) -> bool
 
 // The first door with a name.
 fn door_named(p: &Program, name: &[u8]) -> Option<u32>
+    requires { length p.now.doors < 2 ^ 32 }
     ensures { result ≡ door_named p.now name.now }
 {
     let mut at: u32 = 0;
@@ -97,7 +105,7 @@ fn door_named(p: &Program, name: &[u8]) -> Option<u32>
 
 // Who acts, and the arguments, as the words of a text spell them.
 fn acting(alloc: Global, words: Option<&[u8]>) -> Result<Option<(i128, List<i128>)>, NoMemory>
-    ensures { IfOk result (λ a. a ≡ acting (numbers (pieces_of words))) }
+    ensures { IfOk result (λ a. a ≡ acting (numbers (pieces_of (option_copied words.entry)))) }
 {
     let Some(text) = words else {
         return Ok(None);
@@ -113,7 +121,7 @@ fn acting(alloc: Global, words: Option<&[u8]>) -> Result<Option<(i128, List<i128
 }
 
 fn deployed(alloc: Global, words: Option<&[u8]>) -> Result<Option<Line>, NoMemory>
-    ensures { IfOk result (λ l. l ≡ deployed (acting (numbers (pieces_of words)))) }
+    ensures { IfOk result (λ l. l ≡ deployed (acting (numbers (pieces_of (option_copied words.entry))))) }
 {
     match acting(alloc, words)? {
         None => Ok(None),
@@ -122,7 +130,8 @@ fn deployed(alloc: Global, words: Option<&[u8]>) -> Result<Option<Line>, NoMemor
 }
 
 fn called(alloc: Global, p: &Program, words: Option<&[u8]>) -> Result<Option<Line>, NoMemory>
-    ensures { IfOk result (λ l. l ≡ called p.now (pieces_of words)) }
+    requires { length p.now.doors < 2 ^ 32 }
+    ensures { IfOk result (λ l. l ≡ called p.now (pieces_of (option_copied words.entry))) }
 {
     let Some(text) = words else {
         return Ok(None);
@@ -139,7 +148,7 @@ fn called(alloc: Global, p: &Program, words: Option<&[u8]>) -> Result<Option<Lin
 
 // A word that stands alone.
 fn alone(line: Line, words: Option<&[u8]>) -> Option<Line>
-    ensures { result ≡ alone line (pieces_of words) }
+    ensures { result ≡ alone line (pieces_of (option_copied words.entry)) }
 {
     match words {
         None => Some(line),
@@ -148,7 +157,7 @@ fn alone(line: Line, words: Option<&[u8]>) -> Option<Line>
 }
 
 fn given(words: Option<&[u8]>) -> Option<Line>
-    ensures { result ≡ given (pieces_of words) }
+    ensures { result ≡ given (pieces_of (option_copied words.entry)) }
 {
     let Some(text) = words else {
         return Some(Line::Answer(Answer::Give(None)));
@@ -163,6 +172,7 @@ fn given(words: Option<&[u8]>) -> Option<Line>
 /// What a line says, where it says something. Its line feed is left out.
 #[tactic(auto, unfolding(crate::specs::Lines::said))]
 pub fn said(alloc: Global, p: &Program, line: &[u8]) -> Result<Option<Line>, NoMemory>
+    requires { length p.now.doors < 2 ^ 32 }
     ensures { IfOk result (λ l. l ≡ said p.now line.now) }
 {
     let (word, words) = first_piece(line);

@@ -2,7 +2,7 @@
 
 ghost use Rattle.std.specs.Prelude.{◌≡◌, ◌++◌, map, IfOk, OnOk};
 ghost use Rattle.sol_script.specs.ScriptText.{joined, call_lines, reply_lines, script_lines};
-ghost use Rattle.sol_script.specs.Told.{script_text};
+ghost use Rattle.sol_script.specs.Told.{script_text, text_of};
 
 use crate::words::{answer_line, call_line, deploy_line, ended};
 use chc_nums::{List, Name, NoMemory};
@@ -20,17 +20,24 @@ pub fn lines(alloc: Global, p: &Program, s: &Script) -> Result<List<Name>, NoMem
     Ok(all)
 }
 
+// Lines one after another.
+fn joined(alloc: Global, lines: &[Name]) -> Result<Vec<u8>, NoMemory>
+    ensures { IfOk result (λ text. text.items ≡ text_of lines.now) }
+{
+    let mut text = Vec::new(alloc);
+    for line in lines {
+        text.extend_from_slice(line.as_str().as_bytes())?;
+    }
+    Ok(text)
+}
+
 /// The text of a script: its lines, one after another.
 #[tactic(auto, unfolding(crate::specs::Told::script_text))]
 pub fn print(alloc: Global, p: &Program, s: &Script) -> Result<Vec<u8>, NoMemory>
     ensures { IfOk result (λ text. text.items ≡ script_text p.now s.now) }
 {
     let all = lines(alloc, p, s)?;
-    let mut text = Vec::new(alloc);
-    for line in all.as_slice() {
-        text.extend_from_slice(line.as_str().as_bytes())?;
-    }
-    Ok(text)
+    joined(alloc, all.as_slice())
 }
 
 #[cycle(lines)]

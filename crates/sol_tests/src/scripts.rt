@@ -154,18 +154,42 @@ fn first_wrong_line_is_told(rt: HostRuntime) -> Result<(), Fail> {
         ("call pay 1\nend\n", ScriptTextFault::BadLine { line: 1 }),
         ("deploy 01\nend\n", ScriptTextFault::BadLine { line: 1 }),
         ("deploy -0\nend\n", ScriptTextFault::BadLine { line: 1 }),
-        ("deploy 170141183460469231731687303715884105728\nend\n", ScriptTextFault::BadLine { line: 1 }),
+        (
+            "deploy 170141183460469231731687303715884105728\nend\n",
+            ScriptTextFault::BadLine { line: 1 },
+        ),
         ("deploy\nend\n", ScriptTextFault::BadLine { line: 1 }),
         ("deploy 1\n", ScriptTextFault::BadLine { line: 2 }),
         ("deploy 1\nend", ScriptTextFault::BadLine { line: 2 }),
-        ("deploy 1\nreply\nend\n", ScriptTextFault::BadLine { line: 2 }),
-        ("deploy 1\ngive\nend\n", ScriptTextFault::BadLine { line: 2 }),
-        ("deploy 1\ncall  1\nend\n", ScriptTextFault::BadLine { line: 2 }),
-        ("deploy 1\ncall nobody x\nend\n", ScriptTextFault::BadLine { line: 2 }),
-        ("deploy 1\ncall nobody 1\nend\n", ScriptTextFault::NoName { line: 2 }),
+        (
+            "deploy 1\nreply\nend\n",
+            ScriptTextFault::BadLine { line: 2 },
+        ),
+        (
+            "deploy 1\ngive\nend\n",
+            ScriptTextFault::BadLine { line: 2 },
+        ),
+        (
+            "deploy 1\ncall  1\nend\n",
+            ScriptTextFault::BadLine { line: 2 },
+        ),
+        (
+            "deploy 1\ncall nobody x\nend\n",
+            ScriptTextFault::BadLine { line: 2 },
+        ),
+        (
+            "deploy 1\ncall nobody 1\nend\n",
+            ScriptTextFault::NoName { line: 2 },
+        ),
         ("deploy 1\nend\n\n", ScriptTextFault::BadLine { line: 3 }),
-        ("deploy 1\ncall pay 2\nreply\nend\n", ScriptTextFault::BadLine { line: 4 }),
-        ("deploy 1\ncall pay 2\nreply\nreply\nend\n", ScriptTextFault::BadLine { line: 4 }),
+        (
+            "deploy 1\ncall pay 2\nreply\nend\n",
+            ScriptTextFault::BadLine { line: 4 },
+        ),
+        (
+            "deploy 1\ncall pay 2\nreply\nreply\nend\n",
+            ScriptTextFault::BadLine { line: 4 },
+        ),
     ];
     for (text, fault) in texts {
         let is_right = is_read(rt.alloc(), text) == Err(fault);

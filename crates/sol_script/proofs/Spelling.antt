@@ -1,10 +1,10 @@
 -- What a line says, and how it is spelled.
-use Rattle.std.proofs.Common.{◌≡◌, ◌∙◌, refl, sym, ap, subst, ℕ, suc, ◌+◌, ◌<◌, List, [], ◌∷◌, ◌++◌, length, map, Option, Some, None, Bool, true, false, not, ◌&&◌, ◌==◌, pos, if◌then◌else◌, arith}
+use Rattle.std.proofs.Common.{◌≡◌, ◌∙◌, refl, sym, ap, subst, ℕ, zero, suc, ◌+◌, ◌<◌, List, [], ◌∷◌, ◌++◌, length, map, Option, Some, None, Bool, true, false, not, ◌&&◌, ◌==◌, pos, if◌then◌else◌, arith}
 use Rattle.std.proofs.lemmas.Bool.{and_parts, and_from}
 use Rattle.std.proofs.lemmas.Bool.Decides.{nat_tests}
 use Rattle.std.proofs.lemmas.Slice.Eq.{bytes_eq-Decides}
 use Rattle.lists.proofs.Tests.{same-not, or-left, or-right}
-use Rattle.std.specs.Prelude.{bytes_eq, codes, slice_get, ◌||◌, nat_le, ⊤, tt}
+use Rattle.std.specs.Prelude.{bytes_eq, codes, slice_get, ◌||◌, nat_le, ⊤}
 use Rattle.std.specs.List.{list_all}
 use Rattle.std.specs.Option.{is_some}
 use Rattle.std.specs.Fmt.{signed_decimal}
@@ -22,7 +22,7 @@ use Rattle.sol_script.specs.Pieces.{pieces}
 use Rattle.sol_script.specs.ScriptText.{name_of}
 use Rattle.sol_script.specs.Told.{is_short_answer}
 use Rattle.sol_script.proofs.Pieces.{lacks, all_lack, behind, between, between-pieces, pieces-between}
-use Rattle.sol_script.proofs.Numbers.{number-spelled, number-spells, numbers-spelled, numbers-spells, numbers-lack, signed-lacks}
+use Rattle.sol_script.proofs.Numbers.{number-spelled, number-spells, numbers-spelled, numbers-spell, numbers-lack, signed-lacks}
 
 -- the words of a line
 abbrev pub words_of : Program → Line → List (List ℕ)
@@ -54,16 +54,27 @@ Means p ws line.Reply = ws ≡ words_of p line.Reply
 Means p ws (line.Answer a) = (ws ≡ words_of p (line.Answer a)) × (is_fine p (line.Answer a) ≡ true)
 Means p ws line.End = ws ≡ words_of p line.End
 
+some-number : (m n : ℕ) → Some m ≡ Some n → m ≡ n
+some-number m n e = ap number_in e
+  where
+    number_in : Option ℕ → ℕ
+    number_in None = 0
+    number_in (Some k) = k
+
 same-word : (xs ys : List ℕ) → bytes_eq xs ys ≡ true → xs ≡ ys
 same-word xs ys h = (bytes_eq-Decides xs ys).0 h
 
 acts : (o : Option (List ℤ)) (sender : ℤ) (args : List ℤ) → acting o ≡ Some (sender, args) → o ≡ Some (sender ∷ args)
 acts None sender args e = absurd (cc)
 acts (Some []) sender args e = absurd (cc)
-acts (Some (n ∷ ns)) sender args e = let a : n ≡ sender = cc in let b : ns ≡ args = cc in ap Some (ap (λ z. z ∷ ns) a ∙ ap (λ zs. sender ∷ zs) b)
+acts (Some (n ∷ ns)) sender args e = ap (λ o. Some (together o)) e
+  where
+    together : Option (ℤ × List ℤ) → List ℤ
+    together None = []
+    together (Some (z, zs)) = z ∷ zs
 
 acted : (words : List (List ℕ)) (sender : ℤ) (args : List ℤ) → acting (numbers words) ≡ Some (sender, args) → (words ≡ map signed_decimal (sender ∷ args)) × ((is_short sender && list_all is_short args) ≡ true)
-acted words sender args e = numbers-spells words (sender ∷ args) (acts (numbers words) sender args e)
+acted words sender args e = numbers-spell words (sender ∷ args) (acts (numbers words) sender args e)
 
 module _ (p : Program) where
   has-name : (o : Option Fun) (name : List ℕ) → named name o ≡ true → (is_some o ≡ true) × (name_of o ≡ name)
@@ -72,17 +83,18 @@ module _ (p : Program) where
 
   first-named : (fs : List ℕ) (at : ℕ) (name : List ℕ) (d : ℕ) → first_named p at fs name ≡ Some d → (k : ℕ) × (d ≡ at + k) × (is_some (fun_at p (slice_get fs k)) ≡ true) × (name_of (fun_at p (slice_get fs k)) ≡ name)
   first-named [] at name d e = absurd (cc)
-  first-named (f ∷ fs) at name d e = step (named name (slice_get p.funs f)) refl e
+  first-named (f ∷ fs) at name d e = step (named name (slice_get p.funs f)) refl e (first-named fs (suc at) name d)
     where
-      step : (t : Bool) → named name (slice_get p.funs f) ≡ t → (if t then Some at else first_named p (suc at) fs name) ≡ Some d → (k : ℕ) × (d ≡ at + k) × (is_some (fun_at p (slice_get (f ∷ fs) k)) ≡ true) × (name_of (fun_at p (slice_get (f ∷ fs) k)) ≡ name)
-      step true is h = let same : at ≡ d = cc in let q = has-name (slice_get p.funs f) name is in (0, omega arith, q.0, q.1)
-      step false is h = let r = first-named fs (suc at) name d h in (suc r.0, omega (arith, r.1.0), r.1.1.0, r.1.1.1)
+      step : (t : Bool) → named name (slice_get p.funs f) ≡ t → (if t then Some at else first_named p (suc at) fs name) ≡ Some d
+          → (first_named p (suc at) fs name ≡ Some d → (k : ℕ) × (d ≡ suc at + k) × (is_some (fun_at p (slice_get fs k)) ≡ true) × (name_of (fun_at p (slice_get fs k)) ≡ name)) → (k : ℕ) × (d ≡ at + k) × (is_some (fun_at p (slice_get (f ∷ fs) k)) ≡ true) × (name_of (fun_at p (slice_get (f ∷ fs) k)) ≡ name)
+      step true is h rest = let q = has-name (slice_get p.funs f) name is in (0, omega (arith, some-number at d h), q.0, q.1)
+      step false is h rest = let r = rest h in (suc r.0, omega (arith, r.1), r.2, r.3)
 
   door-named : (name : List ℕ) (d : ℕ) → door_named p name ≡ Some d → (is_some (door p d) ≡ true) × (name_of (door p d) ≡ name)
   door-named name d e =
       let r = first-named p.doors 0 name d e in
-      let same : r.0 ≡ d = omega (arith, r.1.0) in
-      (subst (λ k. is_some (door p k) ≡ true) same r.1.1.0, subst (λ k. name_of (door p k) ≡ name) same r.1.1.1)
+      let same : r.0 ≡ d = omega (arith, r.1) in
+      (subst (λ k. is_some (door p k) ≡ true) same r.2, subst (λ k. name_of (door p k) ≡ name) same r.3)
 
   deploy-means : (words : List (List ℕ)) (l : Line) → deployed (acting (numbers words)) ≡ Some l → Means p (codes "deploy" ∷ words) l
   deploy-means words l e = step (acting (numbers words)) refl l e
@@ -133,27 +145,33 @@ module _ (p : Program) where
     where
       at : (w : List ℕ) → bytes_eq word w ≡ true → Means p (w ∷ words) l → Means p (word ∷ words) l
       at w is m = subst (λ v. Means p (v ∷ words) l) (sym (same-word word w is)) m
+
       end : (t : Bool) → bytes_eq word (codes "end") ≡ t → (if t then alone line.End words else None) ≡ Some l → Means p (word ∷ words) l
       end true is f = at (codes "end") is (alone-means line.End (codes "end") words l refl f)
       end false is f = absurd (cc)
+
       fail : (t : Bool) → bytes_eq word (codes "fail") ≡ t → (if t then alone (line.Answer answer.Fail) words else (if bytes_eq word (codes "end") then alone line.End words else None)) ≡ Some l → Means p (word ∷ words) l
       fail true is f = at (codes "fail") is (alone-means (line.Answer answer.Fail) (codes "fail") words l (refl, refl) f)
       fail false is f = end (bytes_eq word (codes "end")) refl f
+
       give : (t : Bool) → bytes_eq word (codes "give") ≡ t → (if t then given words else (if bytes_eq word (codes "fail") then alone (line.Answer answer.Fail) words else (if bytes_eq word (codes "end") then alone line.End words else None))) ≡ Some l → Means p (word ∷ words) l
       give true is f = at (codes "give") is (give-means words l f)
       give false is f = fail (bytes_eq word (codes "fail")) refl f
+
       reply : (t : Bool) → bytes_eq word (codes "reply") ≡ t → (if t then alone line.Reply words else (if bytes_eq word (codes "give") then given words else (if bytes_eq word (codes "fail") then alone (line.Answer answer.Fail) words else (if bytes_eq word (codes "end") then alone line.End words else None)))) ≡ Some l → Means p (word ∷ words) l
       reply true is f = at (codes "reply") is (alone-means line.Reply (codes "reply") words l refl f)
       reply false is f = give (bytes_eq word (codes "give")) refl f
+
       call : (t : Bool) → bytes_eq word (codes "call") ≡ t → (if t then called p words else (if bytes_eq word (codes "reply") then alone line.Reply words else (if bytes_eq word (codes "give") then given words else (if bytes_eq word (codes "fail") then alone (line.Answer answer.Fail) words else (if bytes_eq word (codes "end") then alone line.End words else None))))) ≡ Some l → Means p (word ∷ words) l
       call true is f = at (codes "call") is (call-means words l f)
       call false is f = reply (bytes_eq word (codes "reply")) refl f
+
       deploy : (t : Bool) → bytes_eq word (codes "deploy") ≡ t → (if t then deployed (acting (numbers words)) else (if bytes_eq word (codes "call") then called p words else (if bytes_eq word (codes "reply") then alone line.Reply words else (if bytes_eq word (codes "give") then given words else (if bytes_eq word (codes "fail") then alone (line.Answer answer.Fail) words else (if bytes_eq word (codes "end") then alone line.End words else None)))))) ≡ Some l → Means p (word ∷ words) l
       deploy true is f = at (codes "deploy") is (deploy-means words l f)
       deploy false is f = call (bytes_eq word (codes "call")) refl f
 
   -- what a line says, it is spelled so
-  pub Spells : List ℕ → Line → Type 0
+  abbrev pub Spells : List ℕ → Line → Type 0
   Spells text (line.Deploy sender args) = (text ≡ between 32 (words_of p (line.Deploy sender args))) × (is_fine p (line.Deploy sender args) ≡ true)
   Spells text (line.Call None sender args) = ⊤
   Spells text (line.Call (Some d) sender args) = (text ≡ between 32 (words_of p (line.Call (Some d) sender args))) × (is_fine p (line.Call (Some d) sender args) ≡ true)
@@ -235,13 +253,13 @@ module _ (p : Program) where
       step None e s = absurd (cc)
       step (Some g) e s = let r = found p.doors 0 d g h e in let same : 0 + d ≡ d = omega arith in (r.0 ∙ ap Some same, r.1)
 
-  words-lack : (b : ℕ) → b < 33 → are_doors p p.doors ≡ true → (l : Line) → is_fine p l ≡ true → all_lack b (words_of p l) ≡ true
+  pub words-lack : (b : ℕ) → b < 33 → are_doors p p.doors ≡ true → (l : Line) → is_fine p l ≡ true → all_lack b (words_of p l) ≡ true
   words-lack b small h (line.Deploy sender args) fine = and_from (lacks b (codes "deploy")) (all_lack b (map signed_decimal (sender ∷ args))) (word-lacks b (codes "deploy") small refl) (numbers-lack b (sender ∷ args) (omega arith) fine)
   words-lack b small h (line.Call None sender args) fine = refl
   words-lack b small h (line.Call (Some d) sender args) fine =
       let q = and_parts (is_some (door p d)) (is_short sender && list_all is_short args) fine in
       and_from (lacks b (codes "call")) (lacks b (name_of (door p d)) && all_lack b (map signed_decimal (sender ∷ args))) (word-lacks b (codes "call") small refl)
-        (and_from (lacks b (name_of (door p d))) (all_lack b (map signed_decimal (sender ∷ args))) (word-lacks b (name_of (door p d)) small (by-name d h q.0).1) (numbers-lack b (sender ∷ args) (omega arith) q.1))
+      (and_from (lacks b (name_of (door p d))) (all_lack b (map signed_decimal (sender ∷ args))) (word-lacks b (name_of (door p d)) small (by-name d h q.0).1) (numbers-lack b (sender ∷ args) (omega arith) q.1))
   words-lack b small h line.Reply fine = and_from (lacks b (codes "reply")) true (word-lacks b (codes "reply") small refl) refl
   words-lack b small h (line.Answer (answer.Give None)) fine = and_from (lacks b (codes "give")) true (word-lacks b (codes "give") small refl) refl
   words-lack b small h (line.Answer (answer.Give (Some n))) fine = and_from (lacks b (codes "give")) (lacks b (signed_decimal n) && true) (word-lacks b (codes "give") small refl) (and_from (lacks b (signed_decimal n)) true (signed-lacks b n (omega arith) fine) refl)
@@ -252,21 +270,24 @@ module _ (p : Program) where
   cut-back w ws h = let q = and_parts (lacks 32 w) (all_lack 32 ws) h in pieces-between 32 w ws q.0 q.1
 
   in-said : (l : Line) → are_doors p p.doors ≡ true → is_fine p l ≡ true → said_in p (pieces 32 (between 32 (words_of p l))) ≡ Some l
-  in-said (line.Deploy sender args) h fine = rw (cut-back (codes "deploy") (map signed_decimal (sender ∷ args)) (words-lack 32 (omega arith) h (line.Deploy sender args) fine), numbers-spelled (sender ∷ args) fine) refl
+  in-said (line.Deploy sender args) h fine =
+      ap (said_in p) (cut-back (codes "deploy") (map signed_decimal (sender ∷ args)) (words-lack 32 (omega arith) h (line.Deploy sender args) fine))
+      ∙ ap (λ o. deployed (acting o)) (numbers-spelled (sender ∷ args) fine)
   in-said (line.Call None sender args) h fine = absurd (cc)
   in-said (line.Call (Some d) sender args) h fine =
       let q = and_parts (is_some (door p d)) (is_short sender && list_all is_short args) fine in
       let b = by-name d h q.0 in
-      rw (cut-back (codes "call") (name_of (door p d) ∷ map signed_decimal (sender ∷ args)) (words-lack 32 (omega arith) h (line.Call (Some d) sender args) fine)) (by-door (name_of (door p d)) b.1 b.0 q.1)
+      ap (said_in p) (cut-back (codes "call") (name_of (door p d) ∷ map signed_decimal (sender ∷ args)) (words-lack 32 (omega arith) h (line.Call (Some d) sender args) fine))
+      ∙ by-door (name_of (door p d)) b.1 b.0 q.1
     where
       by-door : (name : List ℕ) → is_word name ≡ true → door_named p name ≡ Some d → (is_short sender && list_all is_short args) ≡ true → called p (name ∷ map signed_decimal (sender ∷ args)) ≡ Some (line.Call (Some d) sender args)
       by-door [] w n s = absurd (cc)
-      by-door (b ∷ bs) w n s = rw (n, numbers-spelled (sender ∷ args) s) refl
-  in-said line.Reply h fine = rw (cut-back (codes "reply") [] (words-lack 32 (omega arith) h line.Reply fine)) refl
-  in-said (line.Answer (answer.Give None)) h fine = rw (cut-back (codes "give") [] (words-lack 32 (omega arith) h (line.Answer (answer.Give None)) fine)) refl
-  in-said (line.Answer (answer.Give (Some n))) h fine = rw (cut-back (codes "give") (signed_decimal n ∷ []) (words-lack 32 (omega arith) h (line.Answer (answer.Give (Some n))) fine), number-spelled n fine) refl
-  in-said (line.Answer answer.Fail) h fine = rw (cut-back (codes "fail") [] (words-lack 32 (omega arith) h (line.Answer answer.Fail) fine)) refl
-  in-said line.End h fine = rw (cut-back (codes "end") [] (words-lack 32 (omega arith) h line.End fine)) refl
+      by-door (c ∷ cs) w n s = ap (λ o. called_by o (acting (numbers (map signed_decimal (sender ∷ args))))) n ∙ ap (λ o. called_by (Some d) (acting o)) (numbers-spelled (sender ∷ args) s)
+  in-said line.Reply h fine = ap (said_in p) (cut-back (codes "reply") [] (words-lack 32 (omega arith) h line.Reply fine))
+  in-said (line.Answer (answer.Give None)) h fine = ap (said_in p) (cut-back (codes "give") [] (words-lack 32 (omega arith) h (line.Answer (answer.Give None)) fine))
+  in-said (line.Answer (answer.Give (Some n))) h fine = ap (said_in p) (cut-back (codes "give") (signed_decimal n ∷ []) (words-lack 32 (omega arith) h (line.Answer (answer.Give (Some n))) fine)) ∙ ap given_number (number-spelled n fine)
+  in-said (line.Answer answer.Fail) h fine = ap (said_in p) (cut-back (codes "fail") [] (words-lack 32 (omega arith) h (line.Answer answer.Fail) fine))
+  in-said line.End h fine = ap (said_in p) (cut-back (codes "end") [] (words-lack 32 (omega arith) h line.End fine))
 
   pub said-spelled : (l : Line) → are_doors p p.doors ≡ true → is_fine p l ≡ true → said p (between 32 (words_of p l)) ≡ Some l
   unfolding said
