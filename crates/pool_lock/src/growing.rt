@@ -28,15 +28,17 @@ pub trait Growing {
     /// The copies stand for the list of such a root.
     ghost copied: { Self.Root → List (ℕ × Self.Item) → Self.Copies → Type 0 };
 
-    /// The length of the list, without memory.
+    /// The length of the list, which is always shorter than 2^63, without memory.
     fn len(&self) -> u64
-        ensures { result ≡ length (list self.now) };
+        ensures is { result ≡ length (list self.now) }
+        ensures short { length (list self.now) < 2 ^ 63 };
 
     /// One item more, in the name of a number. Without memory the item comes back, and all stays as it was.
     fn append(&mut self, by: u32, item: Self::Item) -> Result<(), (Self::Item, NoMemory)>
         requires { fits (root self.old) (list self.old) item }
         ensures root { root self.new ≡ root self.old }
         ensures added { OnOk result (list self.new ≡ list self.old ++ (by, item) ∷ []) }
+        ensures short { OnOk result (length (list self.new) < 2 ^ 63) }
         ensures unchanged { OnErr result (list self.new ≡ list self.old) }
         ensures back { IfErr result (λ e. e.0 ≡ item) };
 
@@ -50,7 +52,4 @@ pub trait Growing {
 
     /// An item that fits a list fits each longer one.
     ghost lasting: { (r : Self.Root) (front more : List (ℕ × Self.Item)) (item : Self.Item) → fits r front item → fits r (front ++ more) item };
-
-    /// The list is always shorter than 2^63.
-    ghost short: { (x : Self) → length (list x) < 2 ^ 63 };
 }

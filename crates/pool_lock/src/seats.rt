@@ -1,6 +1,6 @@
 // The steps of one section on the seat of a pass: the ticket, the value out and back, the event, and the turn passed on.
 
-ghost use Rattle.std.specs.Prelude.{◌≡◌, List, ◌++◌, ◌∷◌, ◌%◌, ◌^◌, ℕ, [], None, Some, length};
+ghost use Rattle.std.specs.Prelude.{◌≡◌, List, ◌++◌, ◌∷◌, ◌%◌, ◌^◌, ◌<◌, ℕ, [], None, Some, length};
 ghost use Rattle.pool_lock.specs.declared.view.Known.{Known};
 ghost use Rattle.pool_lock.specs.declared.view.Phase.TheVariants.{Idle, Waiting, Served};
 ghost use Rattle.pool_lock.specs.Views.{passing, in_phase, known, IsIdle};
@@ -107,6 +107,7 @@ impl<T: Growing> PoolLock<T> {
     pub(crate) fn leave_published(&self, seat: &mut SeatOf<T>, value: T) -> u64
         requires own { seat.old.table_id ≡ self.now.table.shared.table_id }
         requires served { MayAppend (T.root value) (T.list value) seat.old.me }
+        requires short { length (T.list value) < 2 ^ 63 }
         ensures own { (seat.new.table_id ≡ seat.old.table_id) × (seat.new.id ≡ seat.old.id) }
         ensures published { (t : ℕ) (p : Known T.Item T.Root) (c : List (ℕ × T.Item)) (item : T.Item) → seat.old.me ≡ (passing p (Served t c), (0, None) ∷ []) → T.list value ≡ c ++ (p.number, item) ∷ [] → (result ≡ length c) × (seat.new.me ≡ (passing (known p.number p.opened p.seen (p.published ++ (length c, item) ∷ [])) Idle, [])) }
     {

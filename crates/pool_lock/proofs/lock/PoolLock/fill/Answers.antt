@@ -9,7 +9,7 @@ pub store-requires : goal.store-requires
 store-requires g c =
     let key = c.args.self.now.table.shared.key in
     let e = filling-is key c.args.seat.now.me c.load.new.seat.me c.put_back.new.seat.me c.args.value c.requires.empty c.load.ensures.2 c.put_back.ensures.full in
-    (search rules, search rules, fills-at g.T.Growing.list g.T.Growing.root key _ _ _ c.args.value c.len-count.result c.len-count.ensures (g.met.T.Growing.short c.args.value) e)
+    (search rules, search rules, fills-at g.T.Growing.list g.T.Growing.root key _ _ _ c.args.value c.len-count.result c.len-count.ensures.is c.len-count.ensures.short e)
 
 pub returns-clause-filled : goal.returns-clause-filled
 returns-clause-filled g c =

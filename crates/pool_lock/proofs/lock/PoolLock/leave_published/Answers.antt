@@ -19,4 +19,4 @@ pass_on-requires-clause-back g c =
     (s.0, with_more (λ k. items_of k (length s.3) (drop (length s.3) (g.T.Growing.list c.args.value))) s.1, s.2, c.args.value, s.5, s.6, c.fetch_add-at.ensures.2.1 ∙ ap (λ m. (put (list_in g.T.Growing.list m.1) m.0, m.1)) e)
 
 pub returns-clause-published : goal.returns-clause-published
-returns-clause-published g c t p xs item served more = published-is g.T.Growing.list c.args.seat.now.me c.put_back.new.seat.me c.fetch_add-at.new.seat.me c.pass_on.new.seat.me p t xs item c.args.value c.fetch_add-at.result served more (g.met.T.Growing.short c.args.value) c.put_back.ensures.full c.fetch_add-at.ensures.2 c.pass_on.ensures.passed
+returns-clause-published g c t p xs item served more = published-is g.T.Growing.list c.args.seat.now.me c.put_back.new.seat.me c.fetch_add-at.new.seat.me c.pass_on.new.seat.me p t xs item c.args.value c.fetch_add-at.result served more c.requires.short c.put_back.ensures.full c.fetch_add-at.ensures.2 c.pass_on.ensures.passed
