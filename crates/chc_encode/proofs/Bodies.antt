@@ -16,10 +16,12 @@ use Rattle.sol_first.specs.declared.Step.{Step}
 use Rattle.sol_first.specs.Typed.{StepTyped}
 use Rattle.sol_first.specs.Elaborated.{stmt_of, stmts_of, sites_of_step}
 use Rattle.sol_meaning.specs.declared.World.{World}
+use Rattle.sol_meaning.specs.declared.Got.{Got}
+use Rattle.sol_meaning.specs.declared.Got.TheVariants as got
 use Rattle.sol_meaning.specs.declared.End.{End}
 use Rattle.sol_meaning.specs.declared.End.TheVariants as done
-use Rattle.sol_meaning.specs.Eval.{number_at}
-use Rattle.sol_meaning.specs.Exec.{Done, exec, exec_all, after_normal}
+use Rattle.sol_meaning.specs.Frames.{Run, and_then, Frame, plain, number_at}
+use Rattle.sol_meaning.specs.Exec.{exec, exec_all, after_end}
 use Rattle.chc_encode.specs.declared.path.Path.{Path}
 use Rattle.chc_encode.specs.PathRows.{entry, sorts_of, after, after_all, target}
 use Rattle.chc_encode.specs.Systems.{at_entry, query_at, own_query, queries_of_steps}
@@ -82,13 +84,13 @@ own-point vars start t p ns (Some r) x qs a h =
 abbrev pub Hit : List Variable → List ℤ → List Query → ℕ → List ℕ → List ℕ → Type 0
 Hit vars start qs first hits new = (new ≡ hits) ⊎ ((k : ℕ) × (new ≡ hits ++ (first + k) ∷ []) × HasPoint vars start (slice_get qs k))
 
-abbrev pub BodyRan : List Variable → List ℤ → (List ℤ → Type 0) → List Query → ℕ → List ℕ → End × World → Type 0
-BodyRan vars start E qs first hits (done.Normal, v) = (v.hits ≡ hits) × E v.state.scalars
-BodyRan vars start E qs first hits (done.Reverted, v) = Hit vars start qs first hits v.hits
-BodyRan vars start E qs first hits (done.Cut, v) = v.hits ≡ hits
-BodyRan vars start E qs first hits (done.Broke, v) = ⊥
-BodyRan vars start E qs first hits (done.Continued, v) = ⊥
-BodyRan vars start E qs first hits (done.Left, v) = ⊥
+abbrev pub BodyRan : List Variable → List ℤ → (List ℤ → Type 0) → List Query → ℕ → List ℕ → Got End × World → Type 0
+BodyRan vars start E qs first hits (got.Value done.Normal, v) = (v.hits ≡ hits) × E v.state.scalars
+BodyRan vars start E qs first hits (got.Reverted, v) = Hit vars start qs first hits v.hits
+BodyRan vars start E qs first hits (got.Cut, v) = v.hits ≡ hits
+BodyRan vars start E qs first hits (got.Value done.Broke, v) = ⊥
+BodyRan vars start E qs first hits (got.Value done.Continued, v) = ⊥
+BodyRan vars start E qs first hits (got.Value done.Left, v) = ⊥
 
 hit-right : (vars : List Variable) (start : List ℤ) (ps qs : List Query) (first next : ℕ) (hits new : List ℕ) → next ≡ first + length ps → Hit vars start qs next hits new → Hit vars start (ps ++ qs) first hits new
 hit-right vars start ps qs first next hits new e (inl h) = inl h
@@ -100,44 +102,44 @@ hit-left : (vars : List Variable) (start : List ℤ) (ps qs : List Query) (first
 hit-left vars start ps qs first hits new (inl h) = inl h
 hit-left vars start ps qs first hits new (inr h) = inr (h.0, h.1, point-left vars start ps qs h.0 h.2)
 
-pub ran-right : (vars : List Variable) (start : List ℤ) (E : List ℤ → Type 0) (ps qs : List Query) (first next : ℕ) (hits : List ℕ) (z : End × World) → next ≡ first + length ps → BodyRan vars start E qs next hits z → BodyRan vars start E (ps ++ qs) first hits z
-ran-right vars start E ps qs first next hits (done.Normal, v) e h = h
-ran-right vars start E ps qs first next hits (done.Reverted, v) e h = hit-right vars start ps qs first next hits v.hits e h
-ran-right vars start E ps qs first next hits (done.Cut, v) e h = h
-ran-right vars start E ps qs first next hits (done.Broke, v) e h = h
-ran-right vars start E ps qs first next hits (done.Continued, v) e h = h
-ran-right vars start E ps qs first next hits (done.Left, v) e h = h
+pub ran-right : (vars : List Variable) (start : List ℤ) (E : List ℤ → Type 0) (ps qs : List Query) (first next : ℕ) (hits : List ℕ) (z : Got End × World) → next ≡ first + length ps → BodyRan vars start E qs next hits z → BodyRan vars start E (ps ++ qs) first hits z
+ran-right vars start E ps qs first next hits (got.Value done.Normal, v) e h = h
+ran-right vars start E ps qs first next hits (got.Reverted, v) e h = hit-right vars start ps qs first next hits v.hits e h
+ran-right vars start E ps qs first next hits (got.Cut, v) e h = h
+ran-right vars start E ps qs first next hits (got.Value done.Broke, v) e h = h
+ran-right vars start E ps qs first next hits (got.Value done.Continued, v) e h = h
+ran-right vars start E ps qs first next hits (got.Value done.Left, v) e h = h
 
-pub ran-left : (vars : List Variable) (start : List ℤ) (E : List ℤ → Type 0) (ps qs : List Query) (first : ℕ) (hits : List ℕ) (z : End × World) → BodyRan vars start E ps first hits z → BodyRan vars start E (ps ++ qs) first hits z
-ran-left vars start E ps qs first hits (done.Normal, v) h = h
-ran-left vars start E ps qs first hits (done.Reverted, v) h = hit-left vars start ps qs first hits v.hits h
-ran-left vars start E ps qs first hits (done.Cut, v) h = h
-ran-left vars start E ps qs first hits (done.Broke, v) h = h
-ran-left vars start E ps qs first hits (done.Continued, v) h = h
-ran-left vars start E ps qs first hits (done.Left, v) h = h
+pub ran-left : (vars : List Variable) (start : List ℤ) (E : List ℤ → Type 0) (ps qs : List Query) (first : ℕ) (hits : List ℕ) (z : Got End × World) → BodyRan vars start E ps first hits z → BodyRan vars start E (ps ++ qs) first hits z
+ran-left vars start E ps qs first hits (got.Value done.Normal, v) h = h
+ran-left vars start E ps qs first hits (got.Reverted, v) h = hit-left vars start ps qs first hits v.hits h
+ran-left vars start E ps qs first hits (got.Cut, v) h = h
+ran-left vars start E ps qs first hits (got.Value done.Broke, v) h = h
+ran-left vars start E ps qs first hits (got.Value done.Continued, v) h = h
+ran-left vars start E ps qs first hits (got.Value done.Left, v) h = h
 
 -- some values make the path at the end true
 abbrev pub EndsAt : List Variable → List ℤ → Path → List ℤ → Type 0
 EndsAt vars start p ns = (y : ℕ → ℤ) × Agrees vars start p y ns
 
 -- a statement and then the rest
-then-done : (vars : List Variable) (start : List ℤ) (E : List ℤ → Type 0) (s : Step) (ss : List Step) (site : ℕ) (p : Path) (x : ℕ → ℤ) (ns : List ℤ) (hits : List ℕ) (r : End × World) (rest : Done) → Agrees vars start p x ns → Stepped vars start s site p x hits r
+then-done : (vars : List Variable) (start : List ℤ) (E : List ℤ → Type 0) (s : Step) (ss : List Step) (site : ℕ) (p : Path) (x : ℕ → ℤ) (ns : List ℤ) (hits : List ℕ) (r : Got End × World) (rest : Run End) → Agrees vars start p x ns → Stepped vars start s site p x hits r
     → ((v : World) (y : ℕ → ℤ) → v.hits ≡ hits → Agrees vars start (after vars s p) y v.state.scalars → BodyRan vars start E (queries_of_steps vars (site + length (sites_of_step s)) ss (after vars s p)) (site + length (sites_of_step s)) hits (rest v))
-    → BodyRan vars start E (queries_of_steps vars site (s ∷ ss) p) site hits (after_normal r rest)
-then-done vars start E s ss site p x ns hits (done.Normal, v) rest a h go =
+    → BodyRan vars start E (queries_of_steps vars site (s ∷ ss) p) site hits (and_then r (λ e. after_end e rest))
+then-done vars start E s ss site p x ns hits (got.Value done.Normal, v) rest a h go =
     ran-right vars start E (own_query vars site s p) (queries_of_steps vars (site + length (sites_of_step s)) ss (after vars s p)) site (site + length (sites_of_step s)) hits (rest v) (omega (arith, own-count vars site s p)) (go v h.1.0 h.0 h.1.1)
-then-done vars start E s ss site p x ns hits (done.Reverted, v) rest a (inl h) go = inl h
-then-done vars start E s ss site p x ns hits (done.Reverted, v) rest a (inr h) go =
+then-done vars start E s ss site p x ns hits (got.Reverted, v) rest a (inl h) go = inl h
+then-done vars start E s ss site p x ns hits (got.Reverted, v) rest a (inr h) go =
     let e : site ≡ site + 0 = omega arith in
     inr (0, subst (λ (n : ℕ). v.hits ≡ hits ++ n ∷ []) e h.0, own-point vars start site p ns (target vars s p) x (queries_of_steps vars (site + length (sites_of_step s)) ss (after vars s p)) a h.1)
-then-done vars start E s ss site p x ns hits (done.Broke, v) rest a h go = absurd h
-then-done vars start E s ss site p x ns hits (done.Continued, v) rest a h go = absurd h
-then-done vars start E s ss site p x ns hits (done.Left, v) rest a h go = absurd h
-then-done vars start E s ss site p x ns hits (done.Cut, v) rest a h go = absurd h
+then-done vars start E s ss site p x ns hits (got.Value done.Broke, v) rest a h go = absurd h
+then-done vars start E s ss site p x ns hits (got.Value done.Continued, v) rest a h go = absurd h
+then-done vars start E s ss site p x ns hits (got.Value done.Left, v) rest a h go = absurd h
+then-done vars start E s ss site p x ns hits (got.Cut, v) rest a h go = absurd h
 
-pub body-done : (vars : List Variable) (start : List ℤ) (ss : List Step) (first : ℕ) (p : Path) (x : ℕ → ℤ) (w : World) → All (StepTyped vars) ss → Agrees vars start p x w.state.scalars
-    → BodyRan vars start (EndsAt vars start (after_all vars ss p)) (queries_of_steps vars first ss p) first w.hits (exec_all (stmts_of vars first ss) w)
-body-done vars start [] first p x w t a = (refl, (x, a))
-body-done vars start (s ∷ ss) first p x w t a =
-    then-done vars start (EndsAt vars start (after_all vars ss (after vars s p))) s ss first p x w.state.scalars w.hits (exec (stmt_of vars first s) w) (exec_all (stmts_of vars (first + length (sites_of_step s)) ss)) a (step-done vars start s first p x w (All-head (StepTyped vars) s ss t) a)
-    (λ v y e b. subst (λ (hits : List ℕ). BodyRan vars start (EndsAt vars start (after_all vars ss (after vars s p))) (queries_of_steps vars (first + length (sites_of_step s)) ss (after vars s p)) (first + length (sites_of_step s)) hits (exec_all (stmts_of vars (first + length (sites_of_step s)) ss) v)) e (body-done vars start ss (first + length (sites_of_step s)) (after vars s p) y v (All-tail (StepTyped vars) s ss t) b))
+pub body-done : (frame : Frame) (vars : List Variable) (start : List ℤ) (ss : List Step) (first : ℕ) (p : Path) (x : ℕ → ℤ) (w : World) → All (StepTyped vars) ss → Agrees vars start p x w.state.scalars
+    → BodyRan vars start (EndsAt vars start (after_all vars ss p)) (queries_of_steps vars first ss p) first w.hits (exec_all (plain frame) (stmts_of vars first ss) w)
+body-done frame vars start [] first p x w t a = (refl, (x, a))
+body-done frame vars start (s ∷ ss) first p x w t a =
+    then-done vars start (EndsAt vars start (after_all vars ss (after vars s p))) s ss first p x w.state.scalars w.hits (exec (plain frame) (stmt_of vars first s) w) (exec_all (plain frame) (stmts_of vars (first + length (sites_of_step s)) ss)) a (step-done frame vars start s first p x w (All-head (StepTyped vars) s ss t) a)
+    (λ v y e b. subst (λ (hits : List ℕ). BodyRan vars start (EndsAt vars start (after_all vars ss (after vars s p))) (queries_of_steps vars (first + length (sites_of_step s)) ss (after vars s p)) (first + length (sites_of_step s)) hits (exec_all (plain frame) (stmts_of vars (first + length (sites_of_step s)) ss) v)) e (body-done frame vars start ss (first + length (sites_of_step s)) (after vars s p) y v (All-tail (StepTyped vars) s ss t) b))

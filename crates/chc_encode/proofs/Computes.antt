@@ -7,8 +7,10 @@ use Rattle.std.proofs.Math.Pow.{pow_mono}
 use Rattle.chc_nums.specs.declared.Ty.{Ty}
 use Rattle.chc_nums.specs.declared.Ty.TheVariants as ty
 use Rattle.chc_nums.specs.declared.Op.{Op}
+use Rattle.chc_nums.specs.declared.Op.TheVariants as op
 use Rattle.chc_nums.specs.declared.Num.TheVariants as num
 use Rattle.chc_nums.specs.Types.{InRange, least, greatest, placed, judged}
+use Rattle.chc_nums.specs.Wrapping.{wrapped}
 use Rattle.sol_core.specs.declared.PanicSites.{PanicSites}
 use Rattle.sol_core.specs.declared.Expr.{Expr, Cast}
 use Rattle.sol_core.specs.declared.Place.TheVariants as place
@@ -21,8 +23,9 @@ use Rattle.sol_meaning.specs.declared.World.{World}
 use Rattle.sol_meaning.specs.declared.Got.{Got}
 use Rattle.sol_meaning.specs.declared.Got.TheVariants as got
 use Rattle.sol_meaning.specs.declared.End.TheVariants as done
-use Rattle.sol_meaning.specs.Eval.{eval, wrapped, number_at, truth, compared, arithmetic}
-use Rattle.sol_meaning.specs.Exec.{exec, after_value, write}
+use Rattle.sol_meaning.specs.Frames.{and_then, Frame, plain, number_at}
+use Rattle.sol_meaning.specs.Eval.{eval, truth, compared, arithmetic}
+use Rattle.sol_meaning.specs.Exec.{exec, assigned}
 use Rattle.sol_meaning.proofs.Values.{eval-Num, eval-Scalar, eval-Arith, eval-Compare, eval-Cast}
 use Rattle.sol_meaning.proofs.Statements.{exec-Set}
 
@@ -43,25 +46,30 @@ placed-cases t z = grind (arith, ints)
 
 -- ---- values
 
-pub condition-value : (vars : List Variable) (i : ℕ) (o : Order) (n : ℤ) (w : World) → eval (condition vars i o n) w ≡ (got.Value (truth (compared (cmp_of o) (number_at w.state.scalars i) n)), w)
-condition-value vars i o n w = rw (eval-Compare, eval-Scalar, eval-Num) refl
+pub condition-value : (frame : Frame) (vars : List Variable) (i : ℕ) (o : Order) (n : ℤ) (w : World) → eval frame (condition vars i o n) w ≡ (got.Value (truth (compared (cmp_of o) (number_at w.state.scalars i) n)), w)
+condition-value frame vars i o n w = rw (eval-Compare, eval-Scalar, eval-Num) refl
 
-pub shifted-value : (vars : List Variable) (o : Op) (from : ℕ) (n : ℤ) (m : PanicSites) (w : World) → eval (shifted vars o from n m) w ≡ arithmetic (judged o (type_at vars from) (number_at w.state.scalars from) n) m w
-shifted-value vars o from n m w = rw (eval-Arith, eval-Scalar, eval-Num) refl
+pub shifted-value : (frame : Frame) (vars : List Variable) (o : Op) (from : ℕ) (n : ℤ) (m : PanicSites) (w : World) → eval frame (shifted vars o from n m) w ≡ arithmetic (judged o (type_at vars from) (number_at w.state.scalars from) n) m w
+shifted-value frame vars op.Add from n m w = rw (eval-Arith, eval-Scalar, eval-Num) refl
+shifted-value frame vars op.Sub from n m w = rw (eval-Arith, eval-Scalar, eval-Num) refl
+shifted-value frame vars op.Mul from n m w = rw (eval-Arith, eval-Scalar, eval-Num) refl
+shifted-value frame vars op.Div from n m w = rw (eval-Arith, eval-Scalar, eval-Num) refl
+shifted-value frame vars op.Rem from n m w = rw (eval-Arith, eval-Scalar, eval-Num) refl
+shifted-value frame vars op.Neg from n m w = rw (eval-Arith, eval-Scalar) refl
 
-cast-value : (b : Bool) (s t : Ty) (e : Expr) (z : ℤ) (w : World) → wrapped t z ≡ z → eval e w ≡ (got.Value z, w) → eval (if b then e else Cast s t e) w ≡ (got.Value z, w)
-cast-value true s t e z w h k = k
-cast-value false s t e z w h k = rw (eval-Cast, k, h) refl
+cast-value : (frame : Frame) (b : Bool) (s t : Ty) (e : Expr) (z : ℤ) (w : World) → wrapped t z ≡ z → eval frame e w ≡ (got.Value z, w) → eval frame (if b then e else Cast s t e) w ≡ (got.Value z, w)
+cast-value frame true s t e z w h k = k
+cast-value frame false s t e z w h k = rw (eval-Cast, k, h) refl
 
-cast-reverted : (b : Bool) (s t : Ty) (e : Expr) (w v : World) → eval e w ≡ (got.Reverted, v) → eval (if b then e else Cast s t e) w ≡ (got.Reverted, v)
-cast-reverted true s t e w v k = k
-cast-reverted false s t e w v k = rw (eval-Cast, k) refl
+cast-reverted : (frame : Frame) (b : Bool) (s t : Ty) (e : Expr) (w v : World) → eval frame e w ≡ (got.Reverted, v) → eval frame (if b then e else Cast s t e) w ≡ (got.Reverted, v)
+cast-reverted frame true s t e w v k = k
+cast-reverted frame false s t e w v k = rw (eval-Cast, k) refl
 
-pub converted-value : (vars : List Variable) (from to : ℕ) (e : Expr) (z : ℤ) (w : World) → InRange (type_at vars to) z → eval e w ≡ (got.Value z, w) → eval (converted vars from to e) w ≡ (got.Value z, w)
-converted-value vars from to e z w r k = cast-value (size_at vars from == size_at vars to) (type_at vars from) (type_at vars to) e z w (wrapped-same (size_at vars to) z r) k
+pub converted-value : (frame : Frame) (vars : List Variable) (from to : ℕ) (e : Expr) (z : ℤ) (w : World) → InRange (type_at vars to) z → eval frame e w ≡ (got.Value z, w) → eval frame (converted vars from to e) w ≡ (got.Value z, w)
+converted-value frame vars from to e z w r k = cast-value frame (size_at vars from == size_at vars to) (type_at vars from) (type_at vars to) e z w (wrapped-same (size_at vars to) z r) k
 
-pub converted-reverted : (vars : List Variable) (from to : ℕ) (e : Expr) (w v : World) → eval e w ≡ (got.Reverted, v) → eval (converted vars from to e) w ≡ (got.Reverted, v)
-converted-reverted vars from to e w v k = cast-reverted (size_at vars from == size_at vars to) (type_at vars from) (type_at vars to) e w v k
+pub converted-reverted : (frame : Frame) (vars : List Variable) (from to : ℕ) (e : Expr) (w v : World) → eval frame e w ≡ (got.Reverted, v) → eval frame (converted vars from to e) w ≡ (got.Reverted, v)
+converted-reverted frame vars from to e w v k = cast-reverted frame (size_at vars from == size_at vars to) (type_at vars from) (type_at vars to) e w v k
 
 -- ---- assignments
 
@@ -69,8 +77,8 @@ converted-reverted vars from to e w v k = cast-reverted (size_at vars from == si
 abbrev pub written : ℕ → ℤ → World → World
 written to z w = record w { state = record w.state { scalars = slice_set w.state.scalars to z } }
 
-pub set-value : (to : ℕ) (e : Expr) (z : ℤ) (w : World) → eval e w ≡ (got.Value z, w) → exec (Set (place.Scalar to) e) w ≡ (done.Normal, written to z w)
-set-value to e z w k = exec-Set (place.Scalar to) e w ∙ ap (λ (r : Got × World). after_value r (λ n v. write (place.Scalar to) n v)) k
+pub set-value : (frame : Frame) (to : ℕ) (e : Expr) (z : ℤ) (w : World) → eval (plain frame) e w ≡ (got.Value z, w) → exec (plain frame) (Set (place.Scalar to) e) w ≡ (got.Value done.Normal, written to z w)
+set-value frame to e z w k = exec-Set (plain frame) (place.Scalar to) e w ∙ ap (λ (r : Got ℤ × World). and_then r (assigned (plain frame) (place.Scalar to))) k
 
-pub set-reverted : (to : ℕ) (e : Expr) (w v : World) → eval e w ≡ (got.Reverted, v) → exec (Set (place.Scalar to) e) w ≡ (done.Reverted, v)
-set-reverted to e w v k = exec-Set (place.Scalar to) e w ∙ ap (λ (r : Got × World). after_value r (λ n v. write (place.Scalar to) n v)) k
+pub set-reverted : (frame : Frame) (to : ℕ) (e : Expr) (w v : World) → eval (plain frame) e w ≡ (got.Reverted, v) → exec (plain frame) (Set (place.Scalar to) e) w ≡ (got.Reverted, v)
+set-reverted frame to e w v k = exec-Set (plain frame) (place.Scalar to) e w ∙ ap (λ (r : Got ℤ × World). and_then r (assigned (plain frame) (place.Scalar to))) k

@@ -22,8 +22,9 @@ use Rattle.sol_meaning.specs.declared.Got.{Got}
 use Rattle.sol_meaning.specs.declared.Got.TheVariants as got
 use Rattle.sol_meaning.specs.declared.End.{End}
 use Rattle.sol_meaning.specs.declared.End.TheVariants as done
-use Rattle.sol_meaning.specs.Eval.{number_at, truth, compared, arithmetic}
-use Rattle.sol_meaning.specs.Exec.{Done, exec, exec_all, after_value, after_normal, required, asserted}
+use Rattle.sol_meaning.specs.Frames.{Run, and_then, Frame, plain, number_at}
+use Rattle.sol_meaning.specs.Eval.{truth, compared, arithmetic}
+use Rattle.sol_meaning.specs.Exec.{exec, exec_all, after_end, required, asserted}
 use Rattle.sol_meaning.proofs.Values.{eval-Num, eval-Scalar}
 use Rattle.sol_meaning.proofs.Statements.{exec-Require, exec-Assert}
 use Rattle.chc_encode.specs.declared.path.Path.{Path}
@@ -70,26 +71,26 @@ stands-assigned vars p x ns to z more s l v m = record {
 -- ---- one statement
 
 -- it comes to its end, hits nothing and takes no turn, and the variables are as a path holds them
-abbrev pub Went : List Variable → Path → (ℕ → ℤ) → World → End × World → Type 0
-Went vars p x w (done.Normal, v) = (v.hits ≡ w.hits) × (v.turns ≡ w.turns) × Stands vars p x v.state.scalars
-Went vars p x w (done.Reverted, v) = ⊥
-Went vars p x w (done.Broke, v) = ⊥
-Went vars p x w (done.Continued, v) = ⊥
-Went vars p x w (done.Left, v) = ⊥
-Went vars p x w (done.Cut, v) = ⊥
+abbrev pub Went : List Variable → Path → (ℕ → ℤ) → World → Got End × World → Type 0
+Went vars p x w (got.Value done.Normal, v) = (v.hits ≡ w.hits) × (v.turns ≡ w.turns) × Stands vars p x v.state.scalars
+Went vars p x w (got.Reverted, v) = ⊥
+Went vars p x w (got.Value done.Broke, v) = ⊥
+Went vars p x w (got.Value done.Continued, v) = ⊥
+Went vars p x w (got.Value done.Left, v) = ⊥
+Went vars p x w (got.Cut, v) = ⊥
 
 require-goes : (vars : List Variable) (i : ℕ) (o : Order) (n : ℤ) (p : Path) (x : ℕ → ℤ) (w : World) (b : Bool) → compared (cmp_of o) (x (now_at p i)) n ≡ b → Holds (holds o (now_at p i) n) x → Stands vars p x w.state.scalars
-    → Went vars (after vars (step.Require i o n) p) x w (after_value (got.Value (truth b), w) (λ n v. required n v))
+    → Went vars (after vars (step.Require i o n) p) x w (and_then (got.Value (truth b), w) required)
 require-goes vars i o n p x w true e h s = (refl, refl, stands-row vars p x w.state.scalars (p.rows ++ holds o (now_at p i) n ∷ []) s)
 require-goes vars i o n p x w false e h s = not-both o (now_at p i) n x h (holds-false o (now_at p i) n x e)
 
 assert-goes : (vars : List Variable) (l c i : ℕ) (o : Order) (n : ℤ) (site : ℕ) (p : Path) (x : ℕ → ℤ) (w : World) (b : Bool) → compared (cmp_of o) (x (now_at p i)) n ≡ b → Holds (holds o (now_at p i) n) x → Stands vars p x w.state.scalars
-    → Went vars (after vars (step.Assert l c i o n) p) x w (after_value (got.Value (truth b), w) (λ n v. asserted site n v))
+    → Went vars (after vars (step.Assert l c i o n) p) x w (and_then (got.Value (truth b), w) (asserted site))
 assert-goes vars l c i o n site p x w true e h s = (refl, refl, stands-row vars p x w.state.scalars (p.rows ++ holds o (now_at p i) n ∷ []) s)
 assert-goes vars l c i o n site p x w false e h s = absurd (not-both o (now_at p i) n x h (holds-false o (now_at p i) n x e))
 
 -- a statement writes a value that its rows say
-value-goes : (vars : List Variable) (to : ℕ) (z : ℤ) (more : List Row) (p : Path) (x : ℕ → ℤ) (w : World) (r : End × World) → r ≡ (done.Normal, written to z w) → to < length vars → IsValue vars to z → z ≡ x (next_at p) → Stands vars p x w.state.scalars → Went vars (assigned vars p to more) x w r
+value-goes : (vars : List Variable) (to : ℕ) (z : ℤ) (more : List Row) (p : Path) (x : ℕ → ℤ) (w : World) (r : Got End × World) → r ≡ (got.Value done.Normal, written to z w) → to < length vars → IsValue vars to z → z ≡ x (next_at p) → Stands vars p x w.state.scalars → Went vars (assigned vars p to more) x w r
 value-goes vars to z more p x w r e l v m s = subst (Went vars (assigned vars p to more) x w) (sym e) (refl, refl, stands-assigned vars p x w.state.scalars to z more s l v m)
 
 compared-now : (o : Order) (n y z : ℤ) → y ≡ z → compared (cmp_of o) z n ≡ compared (cmp_of o) y n
@@ -105,28 +106,28 @@ shift-rows read next a b x more e h = omega (arith, ints, h.0, h.1.0, plus_minus
 range-rows : (next : ℕ) (g : ℤ) (x : ℕ → ℤ) → AllHold (within next g) x → (pos 0 ≤ℤ x next) × (x next ≤ℤ g)
 range-rows next g x h = (omega (arith, ints, h.0, minus-value next (pos 0) x), omega (arith, ints, h.1.0, plus-value next (neg_ℤ g) x))
 
-pub step-goes : (vars : List Variable) (s : Step) (site : ℕ) (p : Path) (x : ℕ → ℤ) (w : World) → StepTyped vars s → AllHold (after vars s p).rows x → Stands vars p x w.state.scalars → Went vars (after vars s p) x w (exec (stmt_of vars site s) w)
-step-goes vars (step.Require i o n) site p x w t h s =
-    let e : exec (stmt_of vars site (step.Require i o n)) w ≡ after_value (got.Value (truth (compared (cmp_of o) (number_at w.state.scalars i) n)), w) (λ n v. required n v) =
-    exec-Require (condition vars i o n) w ∙ ap (λ (r : Got × World). after_value r (λ n v. required n v)) (condition-value vars i o n w) in
+pub step-goes : (frame : Frame) (vars : List Variable) (s : Step) (site : ℕ) (p : Path) (x : ℕ → ℤ) (w : World) → StepTyped vars s → AllHold (after vars s p).rows x → Stands vars p x w.state.scalars → Went vars (after vars s p) x w (exec (plain frame) (stmt_of vars site s) w)
+step-goes frame vars (step.Require i o n) site p x w t h s =
+    let e : exec (plain frame) (stmt_of vars site (step.Require i o n)) w ≡ and_then (got.Value (truth (compared (cmp_of o) (number_at w.state.scalars i) n)), w) required =
+    exec-Require (plain frame) (condition vars i o n) w ∙ ap (λ (r : Got ℤ × World). and_then r required) (condition-value (plain frame) vars i o n w) in
     subst (Went vars (after vars (step.Require i o n) p) x w) (sym e)
     (require-goes vars i o n p x w (compared (cmp_of o) (number_at w.state.scalars i) n) (compared-now o n (number_at w.state.scalars i) (x (now_at p i)) (s.values i t.0)) (hold-right p.rows (holds o (now_at p i) n ∷ []) x h).0 s)
-step-goes vars (step.Assert l c i o n) site p x w t h s =
-    let e : exec (stmt_of vars site (step.Assert l c i o n)) w ≡ after_value (got.Value (truth (compared (cmp_of o) (number_at w.state.scalars i) n)), w) (λ n v. asserted site n v) =
-    exec-Assert (condition vars i o n) site w ∙ ap (λ (r : Got × World). after_value r (λ n v. asserted site n v)) (condition-value vars i o n w) in
+step-goes frame vars (step.Assert l c i o n) site p x w t h s =
+    let e : exec (plain frame) (stmt_of vars site (step.Assert l c i o n)) w ≡ and_then (got.Value (truth (compared (cmp_of o) (number_at w.state.scalars i) n)), w) (asserted site) =
+    exec-Assert (plain frame) (condition vars i o n) site w ∙ ap (λ (r : Got ℤ × World). and_then r (asserted site)) (condition-value (plain frame) vars i o n w) in
     subst (Went vars (after vars (step.Assert l c i o n) p) x w) (sym e)
     (assert-goes vars l c i o n site p x w (compared (cmp_of o) (number_at w.state.scalars i) n) (compared-now o n (number_at w.state.scalars i) (x (now_at p i)) (s.values i t.0)) (hold-right p.rows (holds o (now_at p i) n ∷ []) x h).0 s)
-step-goes vars (step.Put to n) site p x w t h s =
+step-goes frame vars (step.Put to n) site p x w t h s =
     let more : List Row = minus (next_at p) n ∷ plus (next_at p) (neg_ℤ n) ∷ [] in
-    value-goes vars to n more p x w (exec (stmt_of vars site (step.Put to n)) w) (set-value to (Num n (type_at vars to)) n w (eval-Num n (type_at vars to) w)) t.0 t.1 (number-rows (next_at p) n x (hold-right p.rows (minus (next_at p) n ∷ plus (next_at p) (neg_ℤ n) ∷ []) x h)) s
-step-goes vars (step.Move to from) site p x w t h s =
+    value-goes vars to n more p x w (exec (plain frame) (stmt_of vars site (step.Put to n)) w) (set-value frame to (Num n (type_at vars to)) n w (eval-Num (plain frame) n (type_at vars to) w)) t.0 t.1 (number-rows (next_at p) n x (hold-right p.rows (minus (next_at p) n ∷ plus (next_at p) (neg_ℤ n) ∷ []) x h)) s
+step-goes frame vars (step.Move to from) site p x w t h s =
     let z : ℤ = number_at w.state.scalars from in
     let more : List Row = plus_minus (now_at p from) (next_at p) (pos 0) ∷ minus_plus (now_at p from) (next_at p) (pos 0) ∷ [] in
     let v : IsValue vars to z = widened (size_at vars from) (size_at vars to) z t.2 (s.typed.ranges from t.1) in
     let k : x (now_at p from) +ℤ pos 0 ≡ x (next_at p) = shift-rows (now_at p from) (next_at p) (pos 0) (pos 0) x [] refl (hold-right p.rows more x h) in
     let m : number_at w.state.scalars from ≡ x (next_at p) = omega (arith, ints, s.values from t.1, k) in
-    value-goes vars to z more p x w (exec (stmt_of vars site (step.Move to from)) w) (set-value to (converted vars from to (Scalar from)) z w (converted-value vars from to (Scalar from) z w v (eval-Scalar from w))) t.0 v m s
-step-goes vars (step.Add l c to from n) site p x w t h s =
+    value-goes vars to z more p x w (exec (plain frame) (stmt_of vars site (step.Move to from)) w) (set-value frame to (converted vars from to (Scalar from)) z w (converted-value (plain frame) vars from to (Scalar from) z w v (eval-Scalar (plain frame) from w))) t.0 v m s
+step-goes frame vars (step.Add l c to from n) site p x w t h s =
     let z : ℤ = number_at w.state.scalars from in
     let a : List Row = plus_minus (now_at p from) (next_at p) n ∷ minus_plus (now_at p from) (next_at p) (neg_ℤ n) ∷ [] in
     let more : List Row = plus_minus (now_at p from) (next_at p) n ∷ minus_plus (now_at p from) (next_at p) (neg_ℤ n) ∷ within (next_at p) (most vars from) in
@@ -141,10 +142,10 @@ step-goes vars (step.Add l c to from n) site p x w t h s =
         | inl u ↦ absurd (omega (arith, ints, u.1, m, r.1))
         | inr u ↦
             let v : IsValue vars to (z +ℤ n) = widened (size_at vars from) (size_at vars to) (z +ℤ n) t.2 u.1 in
-            value-goes vars to (z +ℤ n) more p x w (exec (stmt_of vars site (step.Add l c to from n)) w) (set-value to (converted vars from to e) (z +ℤ n) w (converted-value vars from to e (z +ℤ n) w v (shifted-value vars op.Add from n (over_site site) w ∙ ap (λ (j : num.Num). arithmetic j (over_site site) w) u.0))) t.0 v m s
+            value-goes vars to (z +ℤ n) more p x w (exec (plain frame) (stmt_of vars site (step.Add l c to from n)) w) (set-value frame to (converted vars from to e) (z +ℤ n) w (converted-value (plain frame) vars from to e (z +ℤ n) w v (shifted-value (plain frame) vars op.Add from n (over_site site) w ∙ ap (λ (j : num.Num). arithmetic j (over_site site) w) u.0))) t.0 v m s
       ]
     ]
-step-goes vars (step.Subtract l c to from n) site p x w t h s =
+step-goes frame vars (step.Subtract l c to from n) site p x w t h s =
     let z : ℤ = number_at w.state.scalars from in
     let a : List Row = plus_minus (now_at p from) (next_at p) (neg_ℤ n) ∷ minus_plus (now_at p from) (next_at p) n ∷ [] in
     let more : List Row = plus_minus (now_at p from) (next_at p) (neg_ℤ n) ∷ minus_plus (now_at p from) (next_at p) n ∷ within (next_at p) (most vars from) in
@@ -160,33 +161,33 @@ step-goes vars (step.Subtract l c to from n) site p x w t h s =
         | inl u ↦ absurd (omega (arith, ints, u.1, m, r.1))
         | inr u ↦
             let v : IsValue vars to (z -ℤ n) = widened (size_at vars from) (size_at vars to) (z -ℤ n) t.2 u.1 in
-            value-goes vars to (z -ℤ n) more p x w (exec (stmt_of vars site (step.Subtract l c to from n)) w) (set-value to (converted vars from to e) (z -ℤ n) w (converted-value vars from to e (z -ℤ n) w v (shifted-value vars op.Sub from n (under_site site) w ∙ ap (λ (j : num.Num). arithmetic j (under_site site) w) u.0))) t.0 v m s
+            value-goes vars to (z -ℤ n) more p x w (exec (plain frame) (stmt_of vars site (step.Subtract l c to from n)) w) (set-value frame to (converted vars from to e) (z -ℤ n) w (converted-value (plain frame) vars from to e (z -ℤ n) w v (shifted-value (plain frame) vars op.Sub from n (under_site site) w ∙ ap (λ (j : num.Num). arithmetic j (under_site site) w) u.0))) t.0 v m s
       ]
     ]
 
 -- ---- one statement that hits its own target
 
-abbrev pub Struck : ℕ → List ℕ → End × World → Type 0
-Struck site hits (done.Normal, v) = ⊥
-Struck site hits (done.Reverted, v) = v.hits ≡ hits ++ site ∷ []
-Struck site hits (done.Broke, v) = ⊥
-Struck site hits (done.Continued, v) = ⊥
-Struck site hits (done.Left, v) = ⊥
-Struck site hits (done.Cut, v) = ⊥
+abbrev pub Struck : ℕ → List ℕ → Got End × World → Type 0
+Struck site hits (got.Value done.Normal, v) = ⊥
+Struck site hits (got.Reverted, v) = v.hits ≡ hits ++ site ∷ []
+Struck site hits (got.Value done.Broke, v) = ⊥
+Struck site hits (got.Value done.Continued, v) = ⊥
+Struck site hits (got.Value done.Left, v) = ⊥
+Struck site hits (got.Cut, v) = ⊥
 
-assert-strikes : (i : ℕ) (o : Order) (n : ℤ) (site : ℕ) (p : Path) (x : ℕ → ℤ) (w : World) (b : Bool) → compared (cmp_of o) (x (now_at p i)) n ≡ b → Holds (holds (opposite o) (now_at p i) n) x → Struck site w.hits (after_value (got.Value (truth b), w) (λ n v. asserted site n v))
+assert-strikes : (i : ℕ) (o : Order) (n : ℤ) (site : ℕ) (p : Path) (x : ℕ → ℤ) (w : World) (b : Bool) → compared (cmp_of o) (x (now_at p i)) n ≡ b → Holds (holds (opposite o) (now_at p i) n) x → Struck site w.hits (and_then (got.Value (truth b), w) (asserted site))
 assert-strikes i o n site p x w true e h = not-both o (now_at p i) n x (holds-true o (now_at p i) n x e) h
 assert-strikes i o n site p x w false e h = refl
 
-pub step-strikes : (vars : List Variable) (s : Step) (site : ℕ) (p : Path) (x : ℕ → ℤ) (w : World) → StepTyped vars s → Reached (target vars s p) x → Stands vars p x w.state.scalars → Struck site w.hits (exec (stmt_of vars site s) w)
-step-strikes vars (step.Require i o n) site p x w t h s = absurd h
-step-strikes vars (step.Assert l c i o n) site p x w t h s =
-    let e : exec (stmt_of vars site (step.Assert l c i o n)) w ≡ after_value (got.Value (truth (compared (cmp_of o) (number_at w.state.scalars i) n)), w) (λ n v. asserted site n v) =
-    exec-Assert (condition vars i o n) site w ∙ ap (λ (r : Got × World). after_value r (λ n v. asserted site n v)) (condition-value vars i o n w) in
+pub step-strikes : (frame : Frame) (vars : List Variable) (s : Step) (site : ℕ) (p : Path) (x : ℕ → ℤ) (w : World) → StepTyped vars s → Reached (target vars s p) x → Stands vars p x w.state.scalars → Struck site w.hits (exec (plain frame) (stmt_of vars site s) w)
+step-strikes frame vars (step.Require i o n) site p x w t h s = absurd h
+step-strikes frame vars (step.Assert l c i o n) site p x w t h s =
+    let e : exec (plain frame) (stmt_of vars site (step.Assert l c i o n)) w ≡ and_then (got.Value (truth (compared (cmp_of o) (number_at w.state.scalars i) n)), w) (asserted site) =
+    exec-Assert (plain frame) (condition vars i o n) site w ∙ ap (λ (r : Got ℤ × World). and_then r (asserted site)) (condition-value (plain frame) vars i o n w) in
     subst (Struck site w.hits) (sym e) (assert-strikes i o n site p x w (compared (cmp_of o) (number_at w.state.scalars i) n) (compared-now o n (number_at w.state.scalars i) (x (now_at p i)) (s.values i t.0)) h)
-step-strikes vars (step.Put to n) site p x w t h s = absurd h
-step-strikes vars (step.Move to from) site p x w t h s = absurd h
-step-strikes vars (step.Add l c to from n) site p x w t h s =
+step-strikes frame vars (step.Put to n) site p x w t h s = absurd h
+step-strikes frame vars (step.Move to from) site p x w t h s = absurd h
+step-strikes frame vars (step.Add l c to from n) site p x w t h s =
     let z : ℤ = number_at w.state.scalars from in
     let m : PanicSites = over_site site in
     let e : Expr = shifted vars op.Add from n m in
@@ -198,11 +199,11 @@ step-strikes vars (step.Add l c to from n) site p x w t h s =
     elim (placed-cases (type_at vars from) (z +ℤ n)) [
       | inl g ↦ absurd (omega (arith, ints, g.1))
       | inr j ↦ elim j [
-        | inl g ↦ subst (Struck site w.hits) (sym (set-reverted to (converted vars from to e) w u (converted-reverted vars from to e w u (shifted-value vars op.Add from n m w ∙ ap (λ (y : num.Num). arithmetic y m w) g.0)))) refl
+        | inl g ↦ subst (Struck site w.hits) (sym (set-reverted frame to (converted vars from to e) w u (converted-reverted (plain frame) vars from to e w u (shifted-value (plain frame) vars op.Add from n m w ∙ ap (λ (y : num.Num). arithmetic y m w) g.0)))) refl
         | inr g ↦ absurd (omega (arith, ints, g.1.1, big, r))
       ]
     ]
-step-strikes vars (step.Subtract l c to from n) site p x w t h s =
+step-strikes frame vars (step.Subtract l c to from n) site p x w t h s =
     let z : ℤ = number_at w.state.scalars from in
     let m : PanicSites = under_site site in
     let e : Expr = shifted vars op.Sub from n m in
@@ -212,7 +213,7 @@ step-strikes vars (step.Subtract l c to from n) site p x w t h s =
     let r : number_at w.state.scalars from ≡ x (now_at p from) = s.values from t.1 in
     let small : (x (now_at p from) +ℤ pos 1) ≤ℤ n = omega (arith, ints, h, plus-value (now_at p from) (pos 1 -ℤ n) x) in
     elim (placed-cases (type_at vars from) (z -ℤ n)) [
-      | inl g ↦ subst (Struck site w.hits) (sym (set-reverted to (converted vars from to e) w u (converted-reverted vars from to e w u (shifted-value vars op.Sub from n m w ∙ ap (λ (y : num.Num). arithmetic y m w) g.0)))) refl
+      | inl g ↦ subst (Struck site w.hits) (sym (set-reverted frame to (converted vars from to e) w u (converted-reverted (plain frame) vars from to e w u (shifted-value (plain frame) vars op.Sub from n m w ∙ ap (λ (y : num.Num). arithmetic y m w) g.0)))) refl
       | inr j ↦ elim j [
         | inl g ↦ absurd (omega (arith, ints, g.1))
         | inr g ↦ absurd (omega (arith, ints, g.1.0, small, r))
@@ -221,37 +222,37 @@ step-strikes vars (step.Subtract l c to from n) site p x w t h s =
 
 -- ---- one statement, and then the rest
 
-went-from : (vars : List Variable) (p : Path) (x : ℕ → ℤ) (w u : World) (z : End × World) → u.hits ≡ w.hits → u.turns ≡ w.turns → Went vars p x u z → Went vars p x w z
-went-from vars p x w u (done.Normal, v) e f h = (h.0 ∙ e, h.1 ∙ f, h.2)
-went-from vars p x w u (done.Reverted, v) e f h = h
-went-from vars p x w u (done.Broke, v) e f h = h
-went-from vars p x w u (done.Continued, v) e f h = h
-went-from vars p x w u (done.Left, v) e f h = h
-went-from vars p x w u (done.Cut, v) e f h = h
+went-from : (vars : List Variable) (p : Path) (x : ℕ → ℤ) (w u : World) (z : Got End × World) → u.hits ≡ w.hits → u.turns ≡ w.turns → Went vars p x u z → Went vars p x w z
+went-from vars p x w u (got.Value done.Normal, v) e f h = (h.0 ∙ e, h.1 ∙ f, h.2)
+went-from vars p x w u (got.Reverted, v) e f h = h
+went-from vars p x w u (got.Value done.Broke, v) e f h = h
+went-from vars p x w u (got.Value done.Continued, v) e f h = h
+went-from vars p x w u (got.Value done.Left, v) e f h = h
+went-from vars p x w u (got.Cut, v) e f h = h
 
-then-goes : (vars : List Variable) (p q : Path) (x : ℕ → ℤ) (w : World) (r : End × World) (rest : Done) → Went vars p x w r → ((v : World) → Stands vars p x v.state.scalars → Went vars q x v (rest v)) → Went vars q x w (after_normal r rest)
-then-goes vars p q x w (done.Normal, v) rest h go = went-from vars q x w v (rest v) h.0 h.1 (go v h.2)
-then-goes vars p q x w (done.Reverted, v) rest h go = h
-then-goes vars p q x w (done.Broke, v) rest h go = h
-then-goes vars p q x w (done.Continued, v) rest h go = h
-then-goes vars p q x w (done.Left, v) rest h go = h
-then-goes vars p q x w (done.Cut, v) rest h go = h
+then-goes : (vars : List Variable) (p q : Path) (x : ℕ → ℤ) (w : World) (r : Got End × World) (rest : Run End) → Went vars p x w r → ((v : World) → Stands vars p x v.state.scalars → Went vars q x v (rest v)) → Went vars q x w (and_then r (λ e. after_end e rest))
+then-goes vars p q x w (got.Value done.Normal, v) rest h go = went-from vars q x w v (rest v) h.0 h.1 (go v h.2)
+then-goes vars p q x w (got.Reverted, v) rest h go = h
+then-goes vars p q x w (got.Value done.Broke, v) rest h go = h
+then-goes vars p q x w (got.Value done.Continued, v) rest h go = h
+then-goes vars p q x w (got.Value done.Left, v) rest h go = h
+then-goes vars p q x w (got.Cut, v) rest h go = h
 
-pub then-strikes : (vars : List Variable) (p : Path) (x : ℕ → ℤ) (w : World) (site : ℕ) (r : End × World) (rest : Done) → Went vars p x w r → ((v : World) → Stands vars p x v.state.scalars → Struck site v.hits (rest v)) → Struck site w.hits (after_normal r rest)
-then-strikes vars p x w site (done.Normal, v) rest h go = subst (λ (hits : List ℕ). Struck site hits (rest v)) h.0 (go v h.2)
-then-strikes vars p x w site (done.Reverted, v) rest h go = absurd h
-then-strikes vars p x w site (done.Broke, v) rest h go = absurd h
-then-strikes vars p x w site (done.Continued, v) rest h go = absurd h
-then-strikes vars p x w site (done.Left, v) rest h go = absurd h
-then-strikes vars p x w site (done.Cut, v) rest h go = absurd h
+pub then-strikes : (vars : List Variable) (p : Path) (x : ℕ → ℤ) (w : World) (site : ℕ) (r : Got End × World) (rest : Run End) → Went vars p x w r → ((v : World) → Stands vars p x v.state.scalars → Struck site v.hits (rest v)) → Struck site w.hits (and_then r (λ e. after_end e rest))
+then-strikes vars p x w site (got.Value done.Normal, v) rest h go = subst (λ (hits : List ℕ). Struck site hits (rest v)) h.0 (go v h.2)
+then-strikes vars p x w site (got.Reverted, v) rest h go = absurd h
+then-strikes vars p x w site (got.Value done.Broke, v) rest h go = absurd h
+then-strikes vars p x w site (got.Value done.Continued, v) rest h go = absurd h
+then-strikes vars p x w site (got.Value done.Left, v) rest h go = absurd h
+then-strikes vars p x w site (got.Cut, v) rest h go = absurd h
 
-pub struck-stays : (site : ℕ) (hits : List ℕ) (r : End × World) (rest : Done) → Struck site hits r → Struck site hits (after_normal r rest)
-struck-stays site hits (done.Normal, v) rest h = absurd h
-struck-stays site hits (done.Reverted, v) rest h = h
-struck-stays site hits (done.Broke, v) rest h = absurd h
-struck-stays site hits (done.Continued, v) rest h = absurd h
-struck-stays site hits (done.Left, v) rest h = absurd h
-struck-stays site hits (done.Cut, v) rest h = absurd h
+pub struck-stays : (site : ℕ) (hits : List ℕ) (r : Got End × World) (rest : Run End) → Struck site hits r → Struck site hits (and_then r (λ e. after_end e rest))
+struck-stays site hits (got.Value done.Normal, v) rest h = absurd h
+struck-stays site hits (got.Reverted, v) rest h = h
+struck-stays site hits (got.Value done.Broke, v) rest h = absurd h
+struck-stays site hits (got.Value done.Continued, v) rest h = absurd h
+struck-stays site hits (got.Value done.Left, v) rest h = absurd h
+struck-stays site hits (got.Cut, v) rest h = absurd h
 
 -- the rows of a path are among those of a longer one
 pub after-before : (vars : List Variable) (s : Step) (p : Path) (x : ℕ → ℤ) → AllHold (after vars s p).rows x → AllHold p.rows x
@@ -266,9 +267,9 @@ all-before : (vars : List Variable) (ss : List Step) (p : Path) (x : ℕ → ℤ
 all-before vars [] p x h = h
 all-before vars (s ∷ ss) p x h = after-before vars s p x (all-before vars ss (after vars s p) x h)
 
-pub body-goes : (vars : List Variable) (ss : List Step) (first : ℕ) (p : Path) (x : ℕ → ℤ) (w : World) → All (StepTyped vars) ss → AllHold (after_all vars ss p).rows x → Stands vars p x w.state.scalars → Went vars (after_all vars ss p) x w (exec_all (stmts_of vars first ss) w)
-body-goes vars [] first p x w t h s = (refl, refl, s)
-body-goes vars (s ∷ ss) first p x w t h st =
-    then-goes vars (after vars s p) (after_all vars ss (after vars s p)) x w (exec (stmt_of vars first s) w) (exec_all (stmts_of vars (first + length (sites_of_step s)) ss))
-    (step-goes vars s first p x w (All-head (StepTyped vars) s ss t) (all-before vars ss (after vars s p) x h) st)
-    (λ v k. body-goes vars ss (first + length (sites_of_step s)) (after vars s p) x v (All-tail (StepTyped vars) s ss t) h k)
+pub body-goes : (frame : Frame) (vars : List Variable) (ss : List Step) (first : ℕ) (p : Path) (x : ℕ → ℤ) (w : World) → All (StepTyped vars) ss → AllHold (after_all vars ss p).rows x → Stands vars p x w.state.scalars → Went vars (after_all vars ss p) x w (exec_all (plain frame) (stmts_of vars first ss) w)
+body-goes frame vars [] first p x w t h s = (refl, refl, s)
+body-goes frame vars (s ∷ ss) first p x w t h st =
+    then-goes vars (after vars s p) (after_all vars ss (after vars s p)) x w (exec (plain frame) (stmt_of vars first s) w) (exec_all (plain frame) (stmts_of vars (first + length (sites_of_step s)) ss))
+    (step-goes frame vars s first p x w (All-head (StepTyped vars) s ss t) (all-before vars ss (after vars s p) x h) st)
+    (λ v k. body-goes frame vars ss (first + length (sites_of_step s)) (after vars s p) x v (All-tail (StepTyped vars) s ss t) h k)

@@ -15,6 +15,7 @@ use Rattle.chc_form.specs.Derivations.{Agree, Derived, AllDerived, by_rule, none
 use Rattle.chc_form.proofs.Entries.{contains-first, contains-later}
 use Rattle.sol_core.specs.declared.State.{State}
 use Rattle.sol_core.specs.declared.Script.{Script}
+use Rattle.sol_core.specs.declared.Fun.{Fun}
 use Rattle.sol_core.specs.declared.Call.{Call, out-Call}
 use Rattle.sol_first.specs.declared.Variable.{Variable}
 use Rattle.sol_first.specs.declared.Function.{Function}
@@ -22,12 +23,15 @@ use Rattle.sol_first.specs.declared.Contract.{Contract}
 use Rattle.sol_first.specs.Typed.{StepTyped, IsTyped}
 use Rattle.sol_first.specs.Elaborated.{sites_of_steps, stmts_of, fun_of, funs_of, program_of}
 use Rattle.sol_meaning.specs.declared.World.{World}
+use Rattle.sol_meaning.specs.declared.Got.{Got}
+use Rattle.sol_meaning.specs.declared.Got.TheVariants as got
 use Rattle.sol_meaning.specs.declared.End.{End}
 use Rattle.sol_meaning.specs.declared.End.TheVariants as done
-use Rattle.sol_meaning.specs.Eval.{number_at}
-use Rattle.sol_meaning.specs.Exec.{exec_all, finished, called}
+use Rattle.sol_meaning.specs.Frames.{and_then, Frame, plain, number_at}
+use Rattle.sol_meaning.specs.Exec.{exec_all, ends, caller_of, settled, call_once, go_on, call_each}
+use Rattle.sol_meaning.specs.Calling.{left_by, called, calls_at, level_at}
 use Rattle.sol_core.specs.Doors.{fun_at, door}
-use Rattle.sol_meaning.specs.Run.{settled, call_once, go_on, call_each, fresh, Violates}
+use Rattle.sol_meaning.specs.Run.{fresh, Violates}
 use Rattle.chc_encode.specs.PathRows.{sorts_of, entry, after_all}
 use Rattle.chc_encode.specs.Systems.{at_entry, zeros_from, zero_rule, rule_of, queries_of_steps, queries_of, system_of}
 use Rattle.chc_encode.proofs.Valuations.{plus-value, minus-value}
@@ -36,23 +40,27 @@ use Rattle.chc_encode.proofs.Queries.{steps-count}
 use Rattle.chc_encode.proofs.Steps.{Fitting}
 use Rattle.chc_encode.proofs.Bodies.{entry-agrees, HasPoint, Hit, BodyRan, ran-right, ran-left, EndsAt, body-done}
 
-ran-finished : (vars : List Variable) (start : List ℤ) (E : List ℤ → Type 0) (qs : List Query) (first : ℕ) (hits : List ℕ) (z : End × World) → BodyRan vars start E qs first hits z → BodyRan vars start E qs first hits (finished z)
-ran-finished vars start E qs first hits (done.Normal, v) h = h
-ran-finished vars start E qs first hits (done.Reverted, v) h = h
-ran-finished vars start E qs first hits (done.Cut, v) h = h
-ran-finished vars start E qs first hits (done.Broke, v) h = absurd h
-ran-finished vars start E qs first hits (done.Continued, v) h = absurd h
-ran-finished vars start E qs first hits (done.Left, v) h = absurd h
+-- what a call does, as the end of a statement
+abbrev pub over : Got ℤ × World → Got End × World
+over z = and_then z (λ n. ends)
 
-ran-ends : (vars : List Variable) (start : List ℤ) (E F : List ℤ → Type 0) (qs : List Query) (first : ℕ) (hits : List ℕ) (z : End × World) → ((ns : List ℤ) → E ns → F ns) → BodyRan vars start E qs first hits z → BodyRan vars start F qs first hits z
-ran-ends vars start E F qs first hits (done.Normal, v) f h = (h.0, f v.state.scalars h.1)
-ran-ends vars start E F qs first hits (done.Reverted, v) f h = h
-ran-ends vars start E F qs first hits (done.Cut, v) f h = h
-ran-ends vars start E F qs first hits (done.Broke, v) f h = absurd h
-ran-ends vars start E F qs first hits (done.Continued, v) f h = absurd h
-ran-ends vars start E F qs first hits (done.Left, v) f h = absurd h
+ran-left_by : (vars : List Variable) (start : List ℤ) (E : List ℤ → Type 0) (qs : List Query) (first : ℕ) (hits : List ℕ) (g : Fun) (locals : List ℤ) (z : Got End × World) → BodyRan vars start E qs first hits z → BodyRan vars start E qs first hits (over (left_by g locals z))
+ran-left_by vars start E qs first hits g locals (got.Value done.Normal, v) h = h
+ran-left_by vars start E qs first hits g locals (got.Reverted, v) h = h
+ran-left_by vars start E qs first hits g locals (got.Cut, v) h = h
+ran-left_by vars start E qs first hits g locals (got.Value done.Broke, v) h = absurd h
+ran-left_by vars start E qs first hits g locals (got.Value done.Continued, v) h = absurd h
+ran-left_by vars start E qs first hits g locals (got.Value done.Left, v) h = absurd h
 
-ran-either : (vars : List Variable) (start : List ℤ) (E : List ℤ → Type 0) (qs : List Query) (first : ℕ) (hits : List ℕ) (b : Bool) (y z : End × World) → BodyRan vars start E qs first hits y → BodyRan vars start E qs first hits z → BodyRan vars start E qs first hits (cond b y z)
+ran-ends : (vars : List Variable) (start : List ℤ) (E F : List ℤ → Type 0) (qs : List Query) (first : ℕ) (hits : List ℕ) (z : Got End × World) → ((ns : List ℤ) → E ns → F ns) → BodyRan vars start E qs first hits z → BodyRan vars start F qs first hits z
+ran-ends vars start E F qs first hits (got.Value done.Normal, v) f h = (h.0, f v.state.scalars h.1)
+ran-ends vars start E F qs first hits (got.Reverted, v) f h = h
+ran-ends vars start E F qs first hits (got.Cut, v) f h = h
+ran-ends vars start E F qs first hits (got.Value done.Broke, v) f h = absurd h
+ran-ends vars start E F qs first hits (got.Value done.Continued, v) f h = absurd h
+ran-ends vars start E F qs first hits (got.Value done.Left, v) f h = absurd h
+
+ran-either : (vars : List Variable) (start : List ℤ) (E : List ℤ → Type 0) (qs : List Query) (first : ℕ) (hits : List ℕ) (b : Bool) (y z : Got ℤ × World) → BodyRan vars start E qs first hits (over y) → BodyRan vars start E qs first hits (over z) → BodyRan vars start E qs first hits (over (cond b y z))
 ran-either vars start E qs first hits true y z h k = h
 ran-either vars start E qs first hits false y z h k = k
 
@@ -61,31 +69,36 @@ abbrev FunctionEnds : List Variable → List Function → List ℤ → List ℤ 
 FunctionEnds vars fs start ns = (g : Function) × Contains fs g × EndsAt vars start (after_all vars g.steps (entry vars)) ns
 
 -- a call of a function, or of nothing
-called-done : (vars : List Variable) (fs : List Function) (first f : ℕ) (args : List ℤ) (w : World) → All (λ f. All (StepTyped vars) f.steps) fs → Fitting vars w.state.scalars
-    → BodyRan vars w.state.scalars (FunctionEnds vars fs w.state.scalars) (queries_of vars first fs) first w.hits (called (slice_get (funs_of vars first fs) f) args w)
-called-done vars [] first f args w t a = inl refl
-called-done vars (g ∷ fs) first zero args w t a =
+called-done : (frame : Frame) (vars : List Variable) (fs : List Function) (first f : ℕ) (args : List ℤ) (w : World) → All (λ f. All (StepTyped vars) f.steps) fs → Fitting vars w.state.scalars
+    → BodyRan vars w.state.scalars (FunctionEnds vars fs w.state.scalars) (queries_of vars first fs) first w.hits (over (called frame.level (plain frame).caller (slice_get (funs_of vars first fs) f) args w))
+called-done frame vars [] first f args w t a = inl refl
+called-done frame vars (g ∷ fs) first zero args w t a =
     let start : List ℤ = w.state.scalars in
     let v : World = record w { locals = []; turns = w.turns - 1 } in
-    let b : BodyRan vars w.state.scalars (EndsAt vars w.state.scalars (after_all vars g.steps (entry vars))) (queries_of_steps vars first g.steps (entry vars)) first w.hits (exec_all (stmts_of vars first g.steps) (record w { locals = []; turns = w.turns - 1 })) =
-    body-done vars w.state.scalars g.steps first (entry vars) (number_at w.state.scalars) (record w { locals = []; turns = w.turns - 1 }) (All-head (λ f. All (StepTyped vars) f.steps) g fs t) (entry-agrees vars w.state.scalars a) in
-    let e : BodyRan vars w.state.scalars (FunctionEnds vars (g ∷ fs) w.state.scalars) (queries_of_steps vars first g.steps (entry vars)) first w.hits (exec_all (stmts_of vars first g.steps) (record w { locals = []; turns = w.turns - 1 })) =
-    ran-ends vars w.state.scalars (EndsAt vars w.state.scalars (after_all vars g.steps (entry vars))) (FunctionEnds vars (g ∷ fs) w.state.scalars) (queries_of_steps vars first g.steps (entry vars)) first w.hits (exec_all (stmts_of vars first g.steps) (record w { locals = []; turns = w.turns - 1 })) (λ ns h. (g, contains-first g fs, h)) b in
-    ran-left vars start (FunctionEnds vars (g ∷ fs) start) (queries_of_steps vars first g.steps (entry vars)) (queries_of vars (first + length (sites_of_steps g.steps)) fs) first w.hits (called (Some (fun_of vars first g)) args w)
-    (ran-either vars start (FunctionEnds vars (g ∷ fs) start) (queries_of_steps vars first g.steps (entry vars)) first w.hits (w.turns == 0) (done.Cut, w) (finished (exec_all (stmts_of vars first g.steps) v)) refl (ran-finished vars start (FunctionEnds vars (g ∷ fs) start) (queries_of_steps vars first g.steps (entry vars)) first w.hits (exec_all (stmts_of vars first g.steps) v) e))
-called-done vars (g ∷ fs) first (suc f) args w t a =
+    let b : BodyRan vars w.state.scalars (EndsAt vars w.state.scalars (after_all vars g.steps (entry vars))) (queries_of_steps vars first g.steps (entry vars)) first w.hits (exec_all (plain frame) (stmts_of vars first g.steps) (record w { locals = []; turns = w.turns - 1 })) =
+    body-done frame vars w.state.scalars g.steps first (entry vars) (number_at w.state.scalars) (record w { locals = []; turns = w.turns - 1 }) (All-head (λ f. All (StepTyped vars) f.steps) g fs t) (entry-agrees vars w.state.scalars a) in
+    let e : BodyRan vars w.state.scalars (FunctionEnds vars (g ∷ fs) w.state.scalars) (queries_of_steps vars first g.steps (entry vars)) first w.hits (exec_all (plain frame) (stmts_of vars first g.steps) (record w { locals = []; turns = w.turns - 1 })) =
+    ran-ends vars w.state.scalars (EndsAt vars w.state.scalars (after_all vars g.steps (entry vars))) (FunctionEnds vars (g ∷ fs) w.state.scalars) (queries_of_steps vars first g.steps (entry vars)) first w.hits (exec_all (plain frame) (stmts_of vars first g.steps) (record w { locals = []; turns = w.turns - 1 })) (λ ns h. (g, contains-first g fs, h)) b in
+    ran-left vars start (FunctionEnds vars (g ∷ fs) start) (queries_of_steps vars first g.steps (entry vars)) (queries_of vars (first + length (sites_of_steps g.steps)) fs) first w.hits (over (called frame.level (plain frame).caller (Some (fun_of vars first g)) args w))
+    (ran-either vars start (FunctionEnds vars (g ∷ fs) start) (queries_of_steps vars first g.steps (entry vars)) first w.hits (w.turns == 0) (got.Cut, w) (left_by (fun_of vars first g) w.locals (exec_all (plain frame) (stmts_of vars first g.steps) v)) refl (ran-left_by vars start (FunctionEnds vars (g ∷ fs) start) (queries_of_steps vars first g.steps (entry vars)) first w.hits (fun_of vars first g) w.locals (exec_all (plain frame) (stmts_of vars first g.steps) v) e))
+called-done frame vars (g ∷ fs) first (suc f) args w t a =
     let start : List ℤ = w.state.scalars in
     let next : ℕ = first + length (sites_of_steps g.steps) in
-    ran-right vars start (FunctionEnds vars (g ∷ fs) start) (queries_of_steps vars first g.steps (entry vars)) (queries_of vars next fs) first next w.hits (called (slice_get (funs_of vars next fs) f) args w) (omega (arith, steps-count vars first g.steps (entry vars)))
-    (ran-ends vars start (FunctionEnds vars fs start) (FunctionEnds vars (g ∷ fs) start) (queries_of vars next fs) next w.hits (called (slice_get (funs_of vars next fs) f) args w) (λ ns h. (h.0, contains-later g h.0 fs h.1, h.2)) (called-done vars fs next f args w (All-tail (λ f. All (StepTyped vars) f.steps) g fs t) a))
+    ran-right vars start (FunctionEnds vars (g ∷ fs) start) (queries_of_steps vars first g.steps (entry vars)) (queries_of vars next fs) first next w.hits (over (called frame.level (plain frame).caller (slice_get (funs_of vars next fs) f) args w)) (omega (arith, steps-count vars first g.steps (entry vars)))
+    (ran-ends vars start (FunctionEnds vars fs start) (FunctionEnds vars (g ∷ fs) start) (queries_of vars next fs) next w.hits (over (called frame.level (plain frame).caller (slice_get (funs_of vars next fs) f) args w)) (λ ns h. (h.0, contains-later g h.0 fs h.1, h.2)) (called-done frame vars fs next f args w (All-tail (λ f. All (StepTyped vars) f.steps) g fs t) a))
 
 -- what a call from a state does
-abbrev CallRan : Contract → List ℤ → List ℕ → End × World → Type 0
-CallRan c start hits z = BodyRan c.variables start (FunctionEnds c.variables c.functions start) (queries_of c.variables 0 c.functions) 0 hits z
+abbrev CallRan : Contract → List ℤ → List ℕ → Got ℤ × World → Type 0
+CallRan c start hits z = BodyRan c.variables start (FunctionEnds c.variables c.functions start) (queries_of c.variables 0 c.functions) 0 hits (over z)
 
-door-done : (c : Contract) (o : Option ℕ) (args : List ℤ) (w : World) → IsTyped c → Fitting c.variables w.state.scalars → CallRan c w.state.scalars w.hits (called (fun_at (program_of c) o) args w)
-door-done c None args w t a = inl refl
-door-done c (Some f) args w t a = called-done c.variables c.functions 0 f args w t.steps a
+door-done : (frame : Frame) (c : Contract) (o : Option ℕ) (args : List ℤ) (w : World) → IsTyped c → Fitting c.variables w.state.scalars → CallRan c w.state.scalars w.hits (called frame.level (plain frame).caller (fun_at (program_of c) o) args w)
+door-done frame c None args w t a = inl refl
+door-done frame c (Some f) args w t a = called-done frame c.variables c.functions 0 f args w t.steps a
+
+-- at any level
+level-done : (n : ℕ) (c : Contract) (k : Call) (o : Option ℕ) (args : List ℤ) (w : World) → IsTyped c → Fitting c.variables w.state.scalars → CallRan c w.state.scalars w.hits (calls_at (program_of c) n (caller_of false k) (fun_at (program_of c) o) args w)
+level-done zero c k o args w t a = refl
+level-done (suc n) c k o args w t a = door-done (record { level = level_at (program_of c) n; caller = caller_of false k }) c o args w t a
 
 -- ---- what is derived
 
@@ -139,26 +152,23 @@ derives-hit : (c : Contract) (start : List ℤ) (hits new : List ℕ) → Known 
 derives-hit c start hits new known h (inl e) = derives-same c hits new e h
 derives-hit c start hits new known h (inr k) = derives-same c (hits ++ (0 + k.0) ∷ []) new k.1 (derives-push c hits k.0 h (derivable c start k.0 (slice_get (queries_of c.variables 0 c.functions) k.0) refl known k.2))
 
-settled-good : (c : Contract) (before : State) (hits : List ℕ) (z : End × World) → Fitting c.variables before.scalars → Known c before.scalars → Derives c hits → CallRan c before.scalars hits z → Good c (settled before z).1
-settled-good c before hits (done.Normal, v) f known h (same, (g, i, (y, a))) = record { typed = a.typed; known = known-rule c g before.scalars v.state.scalars i known (y, a); derives = derives-same c hits v.hits same h }
-settled-good c before hits (done.Reverted, v) f known h b = record { typed = f; known = known; derives = derives-hit c before.scalars hits v.hits known h b }
-settled-good c before hits (done.Cut, v) f known h b = record { typed = f; known = known; derives = derives-same c hits v.hits b h }
-settled-good c before hits (done.Broke, v) f known h b = absurd b
-settled-good c before hits (done.Continued, v) f known h b = absurd b
-settled-good c before hits (done.Left, v) f known h b = absurd b
+settled-good : (c : Contract) (before : World) (z : Got ℤ × World) → Fitting c.variables before.state.scalars → Known c before.state.scalars → Derives c before.hits → CallRan c before.state.scalars before.hits z → Good c (settled false before z).1
+settled-good c before (got.Value n, v) f known h (same, (g, i, (y, a))) = record { typed = a.typed; known = known-rule c g before.state.scalars v.state.scalars i known (y, a); derives = derives-same c before.hits v.hits same h }
+settled-good c before (got.Reverted, v) f known h b = record { typed = f; known = known; derives = derives-hit c before.state.scalars before.hits v.hits known h b }
+settled-good c before (got.Cut, v) f known h b = record { typed = f; known = known; derives = derives-same c before.hits v.hits b h }
 
 go_on-good : (c : Contract) (r : Bool × World) (go : World → Bool × World) → Good c r.1 → ((v : World) → Good c v → Good c (go v).1) → Good c (go_on r go).1
 go_on-good c (true, v) go g h = g
 go_on-good c (false, v) go g h = h v g
 
-call-good : (c : Contract) (k : Call) (w : World) → IsTyped c → Good c w → Good c (call_once (program_of c) k w).1
-call-good c k w t g =
-    let v : World = record w { sender = (out-Call k).sender } in
-    settled-good c w.state w.hits (called (door (program_of c) (out-Call k).fun) (out-Call k).args v) g.typed g.known g.derives (door-done c (slice_get (program_of c).doors (out-Call k).fun) (out-Call k).args v t g.typed)
+call-good : (n : ℕ) (c : Contract) (k : Call) (w : World) → IsTyped c → Good c w → Good c (call_once (level_at (program_of c) n) false k w).1
+call-good n c k w t g =
+    let v : World = record w { taken = 0 } in
+    settled-good c w (calls_at (program_of c) n (caller_of false k) (door (program_of c) (out-Call k).fun) (out-Call k).args v) g.typed g.known g.derives (level-done n c k (slice_get (program_of c).doors (out-Call k).fun) (out-Call k).args v t g.typed)
 
-calls-good : (c : Contract) (ks : List Call) (w : World) → IsTyped c → Good c w → Good c (call_each (program_of c) ks w).1
-calls-good c [] w t g = g
-calls-good c (k ∷ ks) w t g = go_on-good c (call_once (program_of c) k w) (call_each (program_of c) ks) (call-good c k w t g) (λ v h. calls-good c ks v t h)
+calls-good : (n : ℕ) (c : Contract) (ks : List Call) (w : World) → IsTyped c → Good c w → Good c (call_each (level_at (program_of c) n) false ks w).1
+calls-good n c [] w t g = g
+calls-good n c (k ∷ ks) w t g = go_on-good c (call_once (level_at (program_of c) n) false k w) (call_each (level_at (program_of c) n) false ks) (call-good n c k w t g) (λ v h. calls-good n c ks v t h)
 
 -- ---- deployment
 
@@ -193,8 +203,8 @@ zeros-known c w same =
       mappings = λ j l ks. let k : j < length c.variables = omega (arith, n, l) in same.mappings j k ks;
     })
 
-fresh-good : (c : Contract) (s : Script) (n : ℕ) → Good c (fresh (program_of c) s n)
-fresh-good c s n = record { typed = zeros-fit c.variables; known = zeros-known c; derives = λ t h. absurd (omega (arith, h.1)) }
+fresh-good : (c : Contract) (n : ℕ) → Good c (fresh (program_of c) n)
+fresh-good c n = record { typed = zeros-fit c.variables; known = zeros-known c; derives = λ t h. absurd (omega (arith, h.1)) }
 
 pub violated-derivable : (c : Contract) → IsTyped c → (t : ℕ) (s : Script) (n : ℕ) → Violates (program_of c) t s n → Derivable (system_of c) t
-violated-derivable c typed t s n h = (calls-good c s.calls (fresh (program_of c) s n) typed (fresh-good c s n)).derives t h
+violated-derivable c typed t s n h = (calls-good n c s.calls (fresh (program_of c) n) typed (fresh-good c n)).derives t h

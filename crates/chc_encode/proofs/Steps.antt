@@ -22,8 +22,9 @@ use Rattle.sol_meaning.specs.declared.Got.{Got}
 use Rattle.sol_meaning.specs.declared.Got.TheVariants as got
 use Rattle.sol_meaning.specs.declared.End.{End}
 use Rattle.sol_meaning.specs.declared.End.TheVariants as done
-use Rattle.sol_meaning.specs.Eval.{number_at, truth, compared, arithmetic}
-use Rattle.sol_meaning.specs.Exec.{exec, after_value, required, asserted}
+use Rattle.sol_meaning.specs.Frames.{and_then, Frame, plain, number_at}
+use Rattle.sol_meaning.specs.Eval.{truth, compared, arithmetic}
+use Rattle.sol_meaning.specs.Exec.{exec, required, asserted}
 use Rattle.sol_meaning.proofs.Values.{eval-Num, eval-Scalar}
 use Rattle.sol_meaning.proofs.Statements.{exec-Require, exec-Assert}
 use Rattle.chc_encode.specs.declared.path.Path.{Path}
@@ -115,21 +116,21 @@ Reached None x = ⊥
 Reached (Some r) x = Holds r x
 
 -- a statement goes on, and the path after it agrees; or it is undone, and at most its own target is hit, whose row then holds
-abbrev pub Stepped : List Variable → List ℤ → Step → ℕ → Path → (ℕ → ℤ) → List ℕ → End × World → Type 0
-Stepped vars start s site p x hits (done.Normal, v) = (v.hits ≡ hits) × ((y : ℕ → ℤ) × Agrees vars start (after vars s p) y v.state.scalars)
-Stepped vars start s site p x hits (done.Reverted, v) = (v.hits ≡ hits) ⊎ ((v.hits ≡ hits ++ site ∷ []) × Reached (target vars s p) x)
-Stepped vars start s site p x hits (done.Broke, v) = ⊥
-Stepped vars start s site p x hits (done.Continued, v) = ⊥
-Stepped vars start s site p x hits (done.Left, v) = ⊥
-Stepped vars start s site p x hits (done.Cut, v) = ⊥
+abbrev pub Stepped : List Variable → List ℤ → Step → ℕ → Path → (ℕ → ℤ) → List ℕ → Got End × World → Type 0
+Stepped vars start s site p x hits (got.Value done.Normal, v) = (v.hits ≡ hits) × ((y : ℕ → ℤ) × Agrees vars start (after vars s p) y v.state.scalars)
+Stepped vars start s site p x hits (got.Reverted, v) = (v.hits ≡ hits) ⊎ ((v.hits ≡ hits ++ site ∷ []) × Reached (target vars s p) x)
+Stepped vars start s site p x hits (got.Value done.Broke, v) = ⊥
+Stepped vars start s site p x hits (got.Value done.Continued, v) = ⊥
+Stepped vars start s site p x hits (got.Value done.Left, v) = ⊥
+Stepped vars start s site p x hits (got.Cut, v) = ⊥
 
 require-done : (vars : List Variable) (start : List ℤ) (i : ℕ) (o : Order) (n : ℤ) (site : ℕ) (p : Path) (x : ℕ → ℤ) (w : World) (b : Bool) → i < length vars → Agrees vars start p x w.state.scalars → compared (cmp_of o) (x (now_at p i)) n ≡ b
-    → Stepped vars start (step.Require i o n) site p x w.hits (after_value (got.Value (truth b), w) (λ n v. required n v))
+    → Stepped vars start (step.Require i o n) site p x w.hits (and_then (got.Value (truth b), w) required)
 require-done vars start i o n site p x w true l a e = (refl, (x, agrees-row vars start p x w.state.scalars (holds o (now_at p i) n) a (holds-below o (now_at p i) n (next_at p) (a.below i l)) (holds-true o (now_at p i) n x e)))
 require-done vars start i o n site p x w false l a e = inl refl
 
 assert-done : (vars : List Variable) (start : List ℤ) (l c i : ℕ) (o : Order) (n : ℤ) (site : ℕ) (p : Path) (x : ℕ → ℤ) (w : World) (b : Bool) → i < length vars → Agrees vars start p x w.state.scalars → compared (cmp_of o) (x (now_at p i)) n ≡ b
-    → Stepped vars start (step.Assert l c i o n) site p x w.hits (after_value (got.Value (truth b), w) (λ n v. asserted site n v))
+    → Stepped vars start (step.Assert l c i o n) site p x w.hits (and_then (got.Value (truth b), w) (asserted site))
 assert-done vars start l c i o n site p x w true d a e = (refl, (x, agrees-row vars start p x w.state.scalars (holds o (now_at p i) n) a (holds-below o (now_at p i) n (next_at p) (a.below i d)) (holds-true o (now_at p i) n x e)))
 assert-done vars start l c i o n site p x w false d a e = inr (refl, holds-false o (now_at p i) n x e)
 
@@ -151,11 +152,11 @@ shift-rows i next x k z l e =
     (omega (arith, ints, s, o, e, plus_minus-value i next k (put x next z)), (omega (arith, ints, s, o, e, minus_plus-value i next (neg_ℤ k) (put x next z)), tt))
 
 put-done : (vars : List Variable) (start : List ℤ) (to : ℕ) (n : ℤ) (site : ℕ) (p : Path) (x : ℕ → ℤ) (w : World) → to < length vars → IsValue vars to n → Agrees vars start p x w.state.scalars
-    → Stepped vars start (step.Put to n) site p x w.hits (done.Normal, written to n w)
+    → Stepped vars start (step.Put to n) site p x w.hits (got.Value done.Normal, written to n w)
 put-done vars start to n site p x w l v a = (refl, (put x (next_at p) n, agrees-assigned vars start p x w.state.scalars to n (minus (next_at p) n ∷ plus (next_at p) (neg_ℤ n) ∷ []) a l v ((omega arith, tt), ((omega arith, tt), tt)) (put-rows p x n)))
 
 move-done : (vars : List Variable) (start : List ℤ) (to from : ℕ) (site : ℕ) (p : Path) (x : ℕ → ℤ) (w : World) → to < length vars → from < length vars → size_at vars from ≤ size_at vars to → Agrees vars start p x w.state.scalars
-    → Stepped vars start (step.Move to from) site p x w.hits (done.Normal, written to (number_at w.state.scalars from) w)
+    → Stepped vars start (step.Move to from) site p x w.hits (got.Value done.Normal, written to (number_at w.state.scalars from) w)
 move-done vars start to from site p x w l m s a =
     let z : ℤ = number_at w.state.scalars from in
     let b : now_at p from < (next_at p) = a.below from m in
@@ -172,7 +173,7 @@ move-done vars start to from site p x w l m s a =
 
 -- a sum, and a difference, that lies in its type
 add-done : (vars : List Variable) (start : List ℤ) (l c to from : ℕ) (n : ℤ) (site : ℕ) (p : Path) (x : ℕ → ℤ) (w : World) → to < length vars → from < length vars → size_at vars from ≤ size_at vars to → Agrees vars start p x w.state.scalars
-    → IsValue vars from (number_at w.state.scalars from +ℤ n) → Stepped vars start (step.Add l c to from n) site p x w.hits (done.Normal, written to (number_at w.state.scalars from +ℤ n) w)
+    → IsValue vars from (number_at w.state.scalars from +ℤ n) → Stepped vars start (step.Add l c to from n) site p x w.hits (got.Value done.Normal, written to (number_at w.state.scalars from +ℤ n) w)
 add-done vars start l c to from n site p x w d m s a r =
     let b : now_at p from < (next_at p) = a.below from m in
     let e : number_at w.state.scalars from ≡ x (now_at p from) = a.values from m in
@@ -192,7 +193,7 @@ neg-neg : (n : ℤ) → neg_ℤ (neg_ℤ n) ≡ n
 neg-neg n = omega (arith, ints)
 
 subtract-done : (vars : List Variable) (start : List ℤ) (l c to from : ℕ) (n : ℤ) (site : ℕ) (p : Path) (x : ℕ → ℤ) (w : World) → to < length vars → from < length vars → size_at vars from ≤ size_at vars to → Agrees vars start p x w.state.scalars
-    → IsValue vars from (number_at w.state.scalars from -ℤ n) → Stepped vars start (step.Subtract l c to from n) site p x w.hits (done.Normal, written to (number_at w.state.scalars from -ℤ n) w)
+    → IsValue vars from (number_at w.state.scalars from -ℤ n) → Stepped vars start (step.Subtract l c to from n) site p x w.hits (got.Value done.Normal, written to (number_at w.state.scalars from -ℤ n) w)
 subtract-done vars start l c to from n site p x w d m s a r =
     let b : now_at p from < (next_at p) = a.below from m in
     let e : number_at w.state.scalars from ≡ x (now_at p from) = a.values from m in
@@ -208,24 +209,24 @@ subtract-done vars start l c to from n site p x w d m s a r =
       ),
     )
 
-pub step-done : (vars : List Variable) (start : List ℤ) (s : Step) (site : ℕ) (p : Path) (x : ℕ → ℤ) (w : World) → StepTyped vars s → Agrees vars start p x w.state.scalars → Stepped vars start s site p x w.hits (exec (stmt_of vars site s) w)
-step-done vars start (step.Require i o n) site p x w t a =
-    let e : exec (stmt_of vars site (step.Require i o n)) w ≡ after_value (got.Value (truth (compared (cmp_of o) (number_at w.state.scalars i) n)), w) (λ n v. required n v) =
-    exec-Require (condition vars i o n) w ∙ ap (λ (r : Got × World). after_value r (λ n v. required n v)) (condition-value vars i o n w) in
+pub step-done : (frame : Frame) (vars : List Variable) (start : List ℤ) (s : Step) (site : ℕ) (p : Path) (x : ℕ → ℤ) (w : World) → StepTyped vars s → Agrees vars start p x w.state.scalars → Stepped vars start s site p x w.hits (exec (plain frame) (stmt_of vars site s) w)
+step-done frame vars start (step.Require i o n) site p x w t a =
+    let e : exec (plain frame) (stmt_of vars site (step.Require i o n)) w ≡ and_then (got.Value (truth (compared (cmp_of o) (number_at w.state.scalars i) n)), w) required =
+    exec-Require (plain frame) (condition vars i o n) w ∙ ap (λ (r : Got ℤ × World). and_then r required) (condition-value (plain frame) vars i o n w) in
     subst (Stepped vars start (step.Require i o n) site p x w.hits) (sym e) (require-done vars start i o n site p x w (compared (cmp_of o) (number_at w.state.scalars i) n) t.0 a (compared-now vars start i o n p x w.state.scalars t.0 a))
-step-done vars start (step.Assert l c i o n) site p x w t a =
-    let e : exec (stmt_of vars site (step.Assert l c i o n)) w ≡ after_value (got.Value (truth (compared (cmp_of o) (number_at w.state.scalars i) n)), w) (λ n v. asserted site n v) =
-    exec-Assert (condition vars i o n) site w ∙ ap (λ (r : Got × World). after_value r (λ n v. asserted site n v)) (condition-value vars i o n w) in
+step-done frame vars start (step.Assert l c i o n) site p x w t a =
+    let e : exec (plain frame) (stmt_of vars site (step.Assert l c i o n)) w ≡ and_then (got.Value (truth (compared (cmp_of o) (number_at w.state.scalars i) n)), w) (asserted site) =
+    exec-Assert (plain frame) (condition vars i o n) site w ∙ ap (λ (r : Got ℤ × World). and_then r (asserted site)) (condition-value (plain frame) vars i o n w) in
     subst (Stepped vars start (step.Assert l c i o n) site p x w.hits) (sym e) (assert-done vars start l c i o n site p x w (compared (cmp_of o) (number_at w.state.scalars i) n) t.0 a (compared-now vars start i o n p x w.state.scalars t.0 a))
-step-done vars start (step.Put to n) site p x w t a = subst (Stepped vars start (step.Put to n) site p x w.hits) (sym (set-value to (Num n (type_at vars to)) n w (eval-Num n (type_at vars to) w))) (put-done vars start to n site p x w t.0 t.1 a)
-step-done vars start (step.Move to from) site p x w t a =
+step-done frame vars start (step.Put to n) site p x w t a = subst (Stepped vars start (step.Put to n) site p x w.hits) (sym (set-value frame to (Num n (type_at vars to)) n w (eval-Num (plain frame) n (type_at vars to) w))) (put-done vars start to n site p x w t.0 t.1 a)
+step-done frame vars start (step.Move to from) site p x w t a =
     let z : ℤ = number_at w.state.scalars from in
-    subst (Stepped vars start (step.Move to from) site p x w.hits) (sym (set-value to (converted vars from to (Scalar from)) z w (converted-value vars from to (Scalar from) z w (widened (size_at vars from) (size_at vars to) z t.2 (a.typed.ranges from t.1)) (eval-Scalar from w)))) (move-done vars start to from site p x w t.0 t.1 t.2 a)
-step-done vars start (step.Add l c to from n) site p x w t a =
+    subst (Stepped vars start (step.Move to from) site p x w.hits) (sym (set-value frame to (converted vars from to (Scalar from)) z w (converted-value (plain frame) vars from to (Scalar from) z w (widened (size_at vars from) (size_at vars to) z t.2 (a.typed.ranges from t.1)) (eval-Scalar (plain frame) from w)))) (move-done vars start to from site p x w t.0 t.1 t.2 a)
+step-done frame vars start (step.Add l c to from n) site p x w t a =
     let z : ℤ = number_at w.state.scalars from in
     let m : PanicSites = over_site site in
     let e : Expr = shifted vars op.Add from n m in
-    let v = shifted-value vars op.Add from n m w in
+    let v = shifted-value (plain frame) vars op.Add from n m w in
     let lo : pos 0 ≤ℤ number_at w.state.scalars from = (a.typed.ranges from t.1).0 in
     let more : pos 0 ≤ℤ n = t.3.0 in
     elim (placed-cases (type_at vars from) (z +ℤ n)) [
@@ -234,30 +235,30 @@ step-done vars start (step.Add l c to from n) site p x w t a =
         | inl h ↦
             let r : number_at w.state.scalars from ≡ x (now_at p from) = a.values from t.1 in
             subst (Stepped vars start (step.Add l c to from n) site p x w.hits)
-            (sym (set-reverted to (converted vars from to e) w (record w { hits = w.hits ++ site ∷ [] }) (converted-reverted vars from to e w (record w { hits = w.hits ++ site ∷ [] }) (v ∙ ap (λ (j : num.Num). arithmetic j m w) h.0))))
+            (sym (set-reverted frame to (converted vars from to e) w (record w { hits = w.hits ++ site ∷ [] }) (converted-reverted (plain frame) vars from to e w (record w { hits = w.hits ++ site ∷ [] }) (v ∙ ap (λ (j : num.Num). arithmetic j m w) h.0))))
             (inr (refl, omega (arith, ints, h.1, minus-value (now_at p from) ((most vars from +ℤ pos 1) -ℤ n) x)))
         | inr h ↦ subst (Stepped vars start (step.Add l c to from n) site p x w.hits)
-            (sym (set-value to (converted vars from to e) (z +ℤ n) w (converted-value vars from to e (z +ℤ n) w (widened (size_at vars from) (size_at vars to) (z +ℤ n) t.2 h.1) (v ∙ ap (λ (j : num.Num). arithmetic j m w) h.0))))
+            (sym (set-value frame to (converted vars from to e) (z +ℤ n) w (converted-value (plain frame) vars from to e (z +ℤ n) w (widened (size_at vars from) (size_at vars to) (z +ℤ n) t.2 h.1) (v ∙ ap (λ (j : num.Num). arithmetic j m w) h.0))))
             (add-done vars start l c to from n site p x w t.0 t.1 t.2 a h.1)
       ]
     ]
-step-done vars start (step.Subtract l c to from n) site p x w t a =
+step-done frame vars start (step.Subtract l c to from n) site p x w t a =
     let z : ℤ = number_at w.state.scalars from in
     let m : PanicSites = under_site site in
     let e : Expr = shifted vars op.Sub from n m in
-    let v = shifted-value vars op.Sub from n m w in
+    let v = shifted-value (plain frame) vars op.Sub from n m w in
     let hi : number_at w.state.scalars from ≤ℤ most vars from = (a.typed.ranges from t.1).1 in
     let more : pos 0 ≤ℤ n = t.3.0 in
     elim (placed-cases (type_at vars from) (z -ℤ n)) [
       | inl h ↦
           let r : number_at w.state.scalars from ≡ x (now_at p from) = a.values from t.1 in
           subst (Stepped vars start (step.Subtract l c to from n) site p x w.hits)
-          (sym (set-reverted to (converted vars from to e) w (record w { hits = w.hits ++ site ∷ [] }) (converted-reverted vars from to e w (record w { hits = w.hits ++ site ∷ [] }) (v ∙ ap (λ (j : num.Num). arithmetic j m w) h.0))))
+          (sym (set-reverted frame to (converted vars from to e) w (record w { hits = w.hits ++ site ∷ [] }) (converted-reverted (plain frame) vars from to e w (record w { hits = w.hits ++ site ∷ [] }) (v ∙ ap (λ (j : num.Num). arithmetic j m w) h.0))))
           (inr (refl, omega (arith, ints, h.1, plus-value (now_at p from) (pos 1 -ℤ n) x)))
       | inr g ↦ elim g [
         | inl h ↦ absurd (omega (arith, ints, h.1))
         | inr h ↦ subst (Stepped vars start (step.Subtract l c to from n) site p x w.hits)
-            (sym (set-value to (converted vars from to e) (z -ℤ n) w (converted-value vars from to e (z -ℤ n) w (widened (size_at vars from) (size_at vars to) (z -ℤ n) t.2 h.1) (v ∙ ap (λ (j : num.Num). arithmetic j m w) h.0))))
+            (sym (set-value frame to (converted vars from to e) (z -ℤ n) w (converted-value (plain frame) vars from to e (z -ℤ n) w (widened (size_at vars from) (size_at vars to) (z -ℤ n) t.2 h.1) (v ∙ ap (λ (j : num.Num). arithmetic j m w) h.0))))
             (subtract-done vars start l c to from n site p x w t.0 t.1 t.2 a h.1)
       ]
     ]

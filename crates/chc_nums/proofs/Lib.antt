@@ -5,3 +5,4 @@ pub mod Ranges
 pub mod Ring
 pub mod Halves
 pub mod Values
+pub mod HalfTypes

@@ -1,4 +1,5 @@
 pub mod Types
 pub mod Values
 pub mod Wide
+pub mod Wrapping
 pub mod Totals

@@ -1,4 +1,5 @@
 pub mod Values
+pub mod Mappings
 pub mod Doors
 pub mod Fits
 pub mod ScriptFaults

@@ -1,5 +1,4 @@
-pub mod Checked
 pub mod Filled
-pub mod Halves
+pub mod Levels
 pub mod Restored
 pub mod Sizes

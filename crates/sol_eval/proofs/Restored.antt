@@ -1,7 +1,14 @@
--- A state of which only the scalars changed, with its scalars from before.
-use Rattle.std.proofs.Common.{◌≡◌, List, refl}
+-- A call from outside that changed scalars, turns and hits alone, settled with the scalars from before it.
+use Rattle.std.proofs.Common.{◌≡◌, List, false, refl}
 use lib.IntN.{ℤ}
 use Rattle.sol_core.specs.declared.State.{State}
+use Rattle.sol_meaning.specs.declared.World.{World}
+use Rattle.sol_meaning.specs.declared.Got.{Got}
+use Rattle.sol_meaning.specs.declared.Got.TheVariants as got
+use Rattle.sol_meaning.specs.Exec.{settled}
 
-pub restored : (old new : State) (s : List ℤ) → s ≡ old.scalars → new.maps ≡ old.maps → new.arrays ≡ old.arrays → ◌≡◌ {A = State} (record new { scalars = s }) old
-restored old new s e m a = rw (e, m, a) refl
+pub restored : (old after : World) (z : Got ℤ) (s : List ℤ) → s ≡ old.state.scalars → after.state.maps ≡ old.state.maps → after.state.arrays ≡ old.state.arrays → after.locals ≡ old.locals
+    → settled false old (z, after) ≡ settled false (record after { taken = old.taken; state = record after.state { scalars = s } }) (z, record after { taken = old.taken })
+restored old after (got.Value n) s e m a l = rw l refl
+restored old after got.Reverted s e m a l = rw (e, m, a, l) refl
+restored old after got.Cut s e m a l = rw (e, m, a, l) refl

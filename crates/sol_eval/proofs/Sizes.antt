@@ -1,5 +1,5 @@
 -- What a sized form has: sized parts.
-use Rattle.std.proofs.Common.{◌≡◌, ◌∙◌, sym, ap, ℕ, zero, suc, Bool, true, ◌&&◌, List, [], ◌∷◌, Some, slice_get, nat_le, arith}
+use Rattle.std.proofs.Common.{◌≡◌, ◌∙◌, sym, ap, ℕ, zero, suc, Bool, true, false, ◌&&◌, List, [], ◌∷◌, Option, Some, slice_get, nat_le, arith}
 use Rattle.std.specs.List.{list_all}
 use lib.IntN.{ℤ}
 use Rattle.std.proofs.lemmas.Bool.Decides.{nat_tests}
@@ -11,12 +11,13 @@ use Rattle.chc_nums.specs.Types.{IsType}
 use Rattle.sol_core.specs.declared.Cmp.{Cmp}
 use Rattle.sol_core.specs.declared.PanicSites.{PanicSites}
 use Rattle.sol_core.specs.declared.Place.{Place}
-use Rattle.sol_core.specs.declared.Expr.{Expr, Num, Scalar, Arith, Compare, Cast}
-use Rattle.sol_core.specs.declared.Expr.TheVariants.{rolls-Num, rolls-Scalar, rolls-Arith, rolls-Compare, rolls-Cast}
+use Rattle.sol_core.specs.declared.Expr.{Expr, Num, Local, Scalar, Sender, MapAt, ElemAt, Len, Arith, Compare, Not, Both, Either, Pick, Cast, Call}
+use Rattle.sol_core.specs.declared.Expr.TheVariants as expression
 use Rattle.sol_core.specs.declared.Expr.TheOpen.{Expr-F}
 use Rattle.sol_core.specs.declared.Expr.TheFolds.{fold-Expr, fold-roll-Expr}
-use Rattle.sol_core.specs.declared.Stmt.{Stmt, Set, Require, Assert}
-use Rattle.sol_core.specs.declared.Stmt.TheVariants.{rolls-Set, rolls-Require, rolls-Assert}
+use Rattle.sol_core.specs.declared.Stmt as statement_of
+use Rattle.sol_core.specs.declared.Stmt.{Stmt, Set, Step, Push, Pop, Clear, Out, If, While, DoWhile, Break, Continue, Leave, Scope, Require, Assert, Revert, Emit}
+use Rattle.sol_core.specs.declared.Stmt.TheVariants as statement
 use Rattle.sol_core.specs.declared.Stmt.TheOpen.{Stmt-F}
 use Rattle.sol_core.specs.declared.Stmt.TheFolds.{fold-Stmt, fold-roll-Stmt}
 use Rattle.sol_eval.specs.Sized.{type_sized, expr_layer, expr_sized, place_sized, stmt_layer, stmt_sized, fun_sized, build_sized, is_sized}
@@ -31,45 +32,157 @@ type_size ty.Addr h = tt
 
 pub sized-Num : (n : ℤ) (t : Ty) → expr_sized (Num n t) ≡ true
 unfolding expr_sized
-sized-Num n t = ap (λ (z : Expr). fold-Expr Bool expr_layer z) (sym (rolls-Num n t)) ∙ fold-roll-Expr Bool expr_layer (Expr-F.Num n t)
+sized-Num n t = ap (λ (z : Expr). fold-Expr Bool expr_layer z) (sym (expression.rolls-Num n t)) ∙ fold-roll-Expr Bool expr_layer (Expr-F.Num n t)
+
+pub sized-Local : (i : ℕ) → expr_sized (Local i) ≡ true
+unfolding expr_sized
+sized-Local i = ap (λ (z : Expr). fold-Expr Bool expr_layer z) (sym (expression.rolls-Local i)) ∙ fold-roll-Expr Bool expr_layer (Expr-F.Local i)
 
 pub sized-Scalar : (i : ℕ) → expr_sized (Scalar i) ≡ true
 unfolding expr_sized
-sized-Scalar i = ap (λ (z : Expr). fold-Expr Bool expr_layer z) (sym (rolls-Scalar i)) ∙ fold-roll-Expr Bool expr_layer (Expr-F.Scalar i)
+sized-Scalar i = ap (λ (z : Expr). fold-Expr Bool expr_layer z) (sym (expression.rolls-Scalar i)) ∙ fold-roll-Expr Bool expr_layer (Expr-F.Scalar i)
 
-pub sized-Arith : (o : Op) (t : Ty) (c : Bool) (a b : Expr) (m : PanicSites) → expr_sized (Arith o t c a b m) ≡ (type_sized t && (expr_sized a && expr_sized b))
+pub sized-Sender : expr_sized Sender ≡ true
 unfolding expr_sized
-sized-Arith o t c a b m = ap (λ (z : Expr). fold-Expr Bool expr_layer z) (sym (rolls-Arith o t c a b m)) ∙ fold-roll-Expr Bool expr_layer (Expr-F.Arith o t c a b m)
+sized-Sender = ap (λ (z : Expr). fold-Expr Bool expr_layer z) (sym expression.rolls-Sender) ∙ fold-roll-Expr Bool expr_layer Expr-F.Sender
+
+pub sized-MapAt : (m : ℕ) (es : List Expr) → expr_sized (MapAt m es) ≡ false
+unfolding expr_sized
+sized-MapAt m es = ap (λ (z : Expr). fold-Expr Bool expr_layer z) (sym (expression.rolls-MapAt m es)) ∙ fold-roll-Expr Bool expr_layer (Expr-F.MapAt m es)
+
+pub sized-ElemAt : (a : ℕ) (e : Expr) (site : ℕ) → expr_sized (ElemAt a e site) ≡ false
+unfolding expr_sized
+sized-ElemAt a e site = ap (λ (z : Expr). fold-Expr Bool expr_layer z) (sym (expression.rolls-ElemAt a e site)) ∙ fold-roll-Expr Bool expr_layer (Expr-F.ElemAt a e site)
+
+pub sized-Len : (a : ℕ) → expr_sized (Len a) ≡ false
+unfolding expr_sized
+sized-Len a = ap (λ (z : Expr). fold-Expr Bool expr_layer z) (sym (expression.rolls-Len a)) ∙ fold-roll-Expr Bool expr_layer (Expr-F.Len a)
+
+pub sized-Arith : (o : Op) (t : Ty) (c : Bool) (a b : Expr) (m : PanicSites) → expr_sized (Arith o t c a b m) ≡ (c && (type_sized t && (expr_sized a && expr_sized b)))
+unfolding expr_sized
+sized-Arith o t c a b m = ap (λ (z : Expr). fold-Expr Bool expr_layer z) (sym (expression.rolls-Arith o t c a b m)) ∙ fold-roll-Expr Bool expr_layer (Expr-F.Arith o t c a b m)
 
 pub sized-Compare : (c : Cmp) (a b : Expr) → expr_sized (Compare c a b) ≡ (expr_sized a && expr_sized b)
 unfolding expr_sized
-sized-Compare c a b = ap (λ (z : Expr). fold-Expr Bool expr_layer z) (sym (rolls-Compare c a b)) ∙ fold-roll-Expr Bool expr_layer (Expr-F.Compare c a b)
+sized-Compare c a b = ap (λ (z : Expr). fold-Expr Bool expr_layer z) (sym (expression.rolls-Compare c a b)) ∙ fold-roll-Expr Bool expr_layer (Expr-F.Compare c a b)
+
+pub sized-Not : (a : Expr) → expr_sized (Not a) ≡ expr_sized a
+unfolding expr_sized
+sized-Not a = ap (λ (z : Expr). fold-Expr Bool expr_layer z) (sym (expression.rolls-Not a)) ∙ fold-roll-Expr Bool expr_layer (Expr-F.Not a)
+
+pub sized-Both : (a b : Expr) → expr_sized (Both a b) ≡ false
+unfolding expr_sized
+sized-Both a b = ap (λ (z : Expr). fold-Expr Bool expr_layer z) (sym (expression.rolls-Both a b)) ∙ fold-roll-Expr Bool expr_layer (Expr-F.Both a b)
+
+pub sized-Either : (a b : Expr) → expr_sized (Either a b) ≡ false
+unfolding expr_sized
+sized-Either a b = ap (λ (z : Expr). fold-Expr Bool expr_layer z) (sym (expression.rolls-Either a b)) ∙ fold-roll-Expr Bool expr_layer (Expr-F.Either a b)
+
+pub sized-Pick : (a b c : Expr) → expr_sized (Pick a b c) ≡ false
+unfolding expr_sized
+sized-Pick a b c = ap (λ (z : Expr). fold-Expr Bool expr_layer z) (sym (expression.rolls-Pick a b c)) ∙ fold-roll-Expr Bool expr_layer (Expr-F.Pick a b c)
 
 pub sized-Cast : (s t : Ty) (a : Expr) → expr_sized (Cast s t a) ≡ (type_sized t && expr_sized a)
 unfolding expr_sized
-sized-Cast s t a = ap (λ (z : Expr). fold-Expr Bool expr_layer z) (sym (rolls-Cast s t a)) ∙ fold-roll-Expr Bool expr_layer (Expr-F.Cast s t a)
+sized-Cast s t a = ap (λ (z : Expr). fold-Expr Bool expr_layer z) (sym (expression.rolls-Cast s t a)) ∙ fold-roll-Expr Bool expr_layer (Expr-F.Cast s t a)
+
+pub sized-Call : (g : ℕ) (es : List Expr) → expr_sized (Call g es) ≡ false
+unfolding expr_sized
+sized-Call g es = ap (λ (z : Expr). fold-Expr Bool expr_layer z) (sym (expression.rolls-Call g es)) ∙ fold-roll-Expr Bool expr_layer (Expr-F.Call g es)
 
 pub sized-Set : (p : Place) (e : Expr) → stmt_sized (Set p e) ≡ (place_sized p && expr_sized e)
 unfolding stmt_sized
-sized-Set p e = ap (λ (z : Stmt). fold-Stmt Bool stmt_layer z) (sym (rolls-Set p e)) ∙ fold-roll-Stmt Bool stmt_layer (Stmt-F.Set p e)
+sized-Set p e = ap (λ (z : Stmt). fold-Stmt Bool stmt_layer z) (sym (statement.rolls-Set p e)) ∙ fold-roll-Stmt Bool stmt_layer (Stmt-F.Set p e)
+
+pub sized-Step : (p : Place) (o : Op) (t : Ty) (c : Bool) (e : Expr) (m : PanicSites) → stmt_sized (Step p o t c e m) ≡ false
+unfolding stmt_sized
+sized-Step p o t c e m = ap (λ (z : Stmt). fold-Stmt Bool stmt_layer z) (sym (statement.rolls-Step p o t c e m)) ∙ fold-roll-Stmt Bool stmt_layer (Stmt-F.Step p o t c e m)
+
+pub sized-Push : (a : ℕ) (e : Expr) → stmt_sized (Push a e) ≡ false
+unfolding stmt_sized
+sized-Push a e = ap (λ (z : Stmt). fold-Stmt Bool stmt_layer z) (sym (statement.rolls-Push a e)) ∙ fold-roll-Stmt Bool stmt_layer (Stmt-F.Push a e)
+
+pub sized-Pop : (a : ℕ) (site : ℕ) → stmt_sized (Pop a site) ≡ false
+unfolding stmt_sized
+sized-Pop a site = ap (λ (z : Stmt). fold-Stmt Bool stmt_layer z) (sym (statement.rolls-Pop a site)) ∙ fold-roll-Stmt Bool stmt_layer (Stmt-F.Pop a site)
+
+pub sized-Clear : (a : ℕ) → stmt_sized (Clear a) ≡ false
+unfolding stmt_sized
+sized-Clear a = ap (λ (z : Stmt). fold-Stmt Bool stmt_layer z) (sym (statement.rolls-Clear a)) ∙ fold-roll-Stmt Bool stmt_layer (Stmt-F.Clear a)
+
+pub sized-StmtCall : (p : Option Place) (g : ℕ) (es : List Expr) → stmt_sized (statement_of.Call p g es) ≡ false
+unfolding stmt_sized
+sized-StmtCall p g es = ap (λ (z : Stmt). fold-Stmt Bool stmt_layer z) (sym (statement.rolls-Call p g es)) ∙ fold-roll-Stmt Bool stmt_layer (Stmt-F.Call p g es)
+
+pub sized-Out : (p : Option Place) (g : ℕ) (e : Expr) (es : List Expr) → stmt_sized (Out p g e es) ≡ false
+unfolding stmt_sized
+sized-Out p g e es = ap (λ (z : Stmt). fold-Stmt Bool stmt_layer z) (sym (statement.rolls-Out p g e es)) ∙ fold-roll-Stmt Bool stmt_layer (Stmt-F.Out p g e es)
+
+pub sized-If : (e : Expr) (a b : List Stmt) → stmt_sized (If e a b) ≡ false
+unfolding stmt_sized
+sized-If e a b = ap (λ (z : Stmt). fold-Stmt Bool stmt_layer z) (sym (statement.rolls-If e a b)) ∙ fold-roll-Stmt Bool stmt_layer (Stmt-F.If e a b)
+
+pub sized-While : (e : Expr) (a b : List Stmt) → stmt_sized (While e a b) ≡ false
+unfolding stmt_sized
+sized-While e a b = ap (λ (z : Stmt). fold-Stmt Bool stmt_layer z) (sym (statement.rolls-While e a b)) ∙ fold-roll-Stmt Bool stmt_layer (Stmt-F.While e a b)
+
+pub sized-DoWhile : (a : List Stmt) (e : Expr) → stmt_sized (DoWhile a e) ≡ false
+unfolding stmt_sized
+sized-DoWhile a e = ap (λ (z : Stmt). fold-Stmt Bool stmt_layer z) (sym (statement.rolls-DoWhile a e)) ∙ fold-roll-Stmt Bool stmt_layer (Stmt-F.DoWhile a e)
+
+pub sized-Break : stmt_sized Break ≡ true
+unfolding stmt_sized
+sized-Break = ap (λ (z : Stmt). fold-Stmt Bool stmt_layer z) (sym statement.rolls-Break) ∙ fold-roll-Stmt Bool stmt_layer Stmt-F.Break
+
+pub sized-Continue : stmt_sized Continue ≡ true
+unfolding stmt_sized
+sized-Continue = ap (λ (z : Stmt). fold-Stmt Bool stmt_layer z) (sym statement.rolls-Continue) ∙ fold-roll-Stmt Bool stmt_layer Stmt-F.Continue
+
+pub sized-Leave : stmt_sized Leave ≡ true
+unfolding stmt_sized
+sized-Leave = ap (λ (z : Stmt). fold-Stmt Bool stmt_layer z) (sym statement.rolls-Leave) ∙ fold-roll-Stmt Bool stmt_layer Stmt-F.Leave
+
+pub sized-Scope : (a : List Stmt) → stmt_sized (Scope a) ≡ false
+unfolding stmt_sized
+sized-Scope a = ap (λ (z : Stmt). fold-Stmt Bool stmt_layer z) (sym (statement.rolls-Scope a)) ∙ fold-roll-Stmt Bool stmt_layer (Stmt-F.Scope a)
 
 pub sized-Require : (e : Expr) → stmt_sized (Require e) ≡ expr_sized e
 unfolding stmt_sized
-sized-Require e = ap (λ (z : Stmt). fold-Stmt Bool stmt_layer z) (sym (rolls-Require e)) ∙ fold-roll-Stmt Bool stmt_layer (Stmt-F.Require e)
+sized-Require e = ap (λ (z : Stmt). fold-Stmt Bool stmt_layer z) (sym (statement.rolls-Require e)) ∙ fold-roll-Stmt Bool stmt_layer (Stmt-F.Require e)
 
 pub sized-Assert : (e : Expr) (site : ℕ) → stmt_sized (Assert e site) ≡ expr_sized e
 unfolding stmt_sized
-sized-Assert e site = ap (λ (z : Stmt). fold-Stmt Bool stmt_layer z) (sym (rolls-Assert e site)) ∙ fold-roll-Stmt Bool stmt_layer (Stmt-F.Assert e site)
+sized-Assert e site = ap (λ (z : Stmt). fold-Stmt Bool stmt_layer z) (sym (statement.rolls-Assert e site)) ∙ fold-roll-Stmt Bool stmt_layer (Stmt-F.Assert e site)
+
+pub sized-Revert : (es : List Expr) → stmt_sized (Revert es) ≡ false
+unfolding stmt_sized
+sized-Revert es = ap (λ (z : Stmt). fold-Stmt Bool stmt_layer z) (sym (statement.rolls-Revert es)) ∙ fold-roll-Stmt Bool stmt_layer (Stmt-F.Revert es)
+
+pub sized-Emit : (es : List Expr) → stmt_sized (Emit es) ≡ false
+unfolding stmt_sized
+sized-Emit es = ap (λ (z : Stmt). fold-Stmt Bool stmt_layer z) (sym (statement.rolls-Emit es)) ∙ fold-roll-Stmt Bool stmt_layer (Stmt-F.Emit es)
 
 -- the parts of a form that is sized
+pub arith-checked : (o : Op) (t : Ty) (c : Bool) (a b : Expr) (m : PanicSites) → expr_sized (Arith o t c a b m) ≡ true → c ≡ true
+arith-checked o t c a b m h = (and_parts c (type_sized t && (expr_sized a && expr_sized b)) (sym (sized-Arith o t c a b m) ∙ h)).0
+
+arith-parts : (o : Op) (t : Ty) (c : Bool) (a b : Expr) (m : PanicSites) → expr_sized (Arith o t c a b m) ≡ true → (type_sized t ≡ true) × (expr_sized a ≡ true) × (expr_sized b ≡ true)
+arith-parts o t c a b m h =
+    let all = and_parts (type_sized t) (expr_sized a && expr_sized b) (and_parts c (type_sized t && (expr_sized a && expr_sized b)) (sym (sized-Arith o t c a b m) ∙ h)).1 in
+    let both = and_parts (expr_sized a) (expr_sized b) all.1 in
+    (all.0, both.0, both.1)
+
 pub arith-type : (o : Op) (t : Ty) (c : Bool) (a b : Expr) (m : PanicSites) → expr_sized (Arith o t c a b m) ≡ true → type_sized t ≡ true
-arith-type o t c a b m h = (and_parts (type_sized t) (expr_sized a && expr_sized b) (sym (sized-Arith o t c a b m) ∙ h)).0
+arith-type o t c a b m h = (arith-parts o t c a b m h).0
 
 pub arith-first : (o : Op) (t : Ty) (c : Bool) (a b : Expr) (m : PanicSites) → expr_sized (Arith o t c a b m) ≡ true → expr_sized a ≡ true
-arith-first o t c a b m h = (and_parts (expr_sized a) (expr_sized b) (and_parts (type_sized t) (expr_sized a && expr_sized b) (sym (sized-Arith o t c a b m) ∙ h)).1).0
+arith-first o t c a b m h = (arith-parts o t c a b m h).1
 
 pub arith-second : (o : Op) (t : Ty) (c : Bool) (a b : Expr) (m : PanicSites) → expr_sized (Arith o t c a b m) ≡ true → expr_sized b ≡ true
-arith-second o t c a b m h = (and_parts (expr_sized a) (expr_sized b) (and_parts (type_sized t) (expr_sized a && expr_sized b) (sym (sized-Arith o t c a b m) ∙ h)).1).1
+arith-second o t c a b m h = (arith-parts o t c a b m h).2
+
+pub not-value : (a : Expr) → expr_sized (Not a) ≡ true → expr_sized a ≡ true
+not-value a h = sym (sized-Not a) ∙ h
 
 pub compare-first : (c : Cmp) (a b : Expr) → expr_sized (Compare c a b) ≡ true → expr_sized a ≡ true
 compare-first c a b h = (and_parts (expr_sized a) (expr_sized b) (sym (sized-Compare c a b) ∙ h)).0
@@ -85,6 +198,9 @@ cast-value s t a h = (and_parts (type_sized t) (expr_sized a) (sym (sized-Cast s
 
 pub set-value : (p : Place) (e : Expr) → stmt_sized (Set p e) ≡ true → expr_sized e ≡ true
 set-value p e h = (and_parts (place_sized p) (expr_sized e) (sym (sized-Set p e) ∙ h)).1
+
+pub set-place : (p : Place) (e : Expr) → stmt_sized (Set p e) ≡ true → place_sized p ≡ true
+set-place p e h = (and_parts (place_sized p) (expr_sized e) (sym (sized-Set p e) ∙ h)).0
 
 pub require-condition : (e : Expr) → stmt_sized (Require e) ≡ true → expr_sized e ≡ true
 require-condition e h = sym (sized-Require e) ∙ h
@@ -115,9 +231,12 @@ body_sized fs i f h e = entry-sized fun_sized fs i f h e
 
 pub ruleset programs = (bodies-sized, initialisers-sized)
 
-pub ruleset expressions = (arith-type, arith-first, arith-second, compare-first, compare-second, cast-type, cast-value)
+pub ruleset expressions = (arith-type, arith-first, arith-second, arith-checked, compare-first, compare-second, cast-type, cast-value, not-value)
 
-pub ruleset forms = (set-value, require-condition, assert-condition)
+pub ruleset forms = (set-value, set-place, require-condition, assert-condition)
 
 -- when each form is sized
-pub ruleset sized = (sized-Num, sized-Scalar, sized-Arith, sized-Compare, sized-Cast, sized-Set, sized-Require, sized-Assert)
+pub ruleset sized = (sized-Num, sized-Local, sized-Scalar, sized-Sender, sized-Arith, sized-Compare, sized-Not, sized-Cast, sized-Set, sized-Break, sized-Continue, sized-Leave, sized-Require, sized-Assert)
+
+-- the forms that are not
+pub ruleset unsized = (sized-MapAt, sized-ElemAt, sized-Len, sized-Both, sized-Either, sized-Pick, sized-Call, sized-Step, sized-Push, sized-Pop, sized-Clear, sized-StmtCall, sized-Out, sized-If, sized-While, sized-DoWhile, sized-Scope, sized-Revert, sized-Emit)

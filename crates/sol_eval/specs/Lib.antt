@@ -1,3 +1,4 @@
 pub mod Ran
 pub mod Runs
 pub mod Sized
+pub mod Framed

@@ -1,29 +1,32 @@
 // What a deployment does.
 
 ghost use Rattle.std.specs.List.{list_all};
-ghost use Rattle.std.specs.Prelude.{◌≡◌, IsTrue, IfOk, map, pos, [], List};
-ghost use Rattle.sol_meaning.specs.Exec.{all_of};
+ghost use Rattle.std.specs.Prelude.{◌≡◌, IsTrue, IfOk, map, pos, [], List, slice_get};
+ghost use Rattle.sol_meaning.specs.Frames.{and_then};
+ghost use Rattle.sol_meaning.specs.Exec.{all_of, ends};
 ghost use Rattle.sol_meaning.specs.Run.{zero_state, build_arg, constructed, built, fresh};
 ghost use Rattle.sol_eval.specs.Ran.{Ran};
+ghost use Rattle.sol_eval.specs.Framed.{frame_in};
 ghost use Rattle.sol_eval.specs.Sized.{fun_sized, build_sized};
 
 use crate::calls::call;
+use crate::frames::Running;
 use crate::numbers::number_at;
 use crate::statements::exec_all;
 use chc_nums::{List, NoMemory, Ty};
-use sol_core::{Build, BuildArg, Program, Script, State};
-use sol_meaning::{End, World};
+use sol_core::{Build, BuildArg, MapTy, MapVal, Program, State};
+use sol_meaning::{End, Got, World};
 use std::alloc::Global;
 
 /// The world at a deployment.
-pub fn fresh(alloc: Global, p: &Program, s: &Script, turns: u32) -> Result<World, NoMemory>
-    ensures { IfOk result (λ w. w ≡ fresh p.now s.now turns) }
+pub fn fresh(alloc: Global, p: &Program, turns: u32) -> Result<World, NoMemory>
+    ensures { IfOk result (λ w. w ≡ fresh p.now turns) }
 {
     let state = zero_state(alloc, p)?;
     Ok(World {
         state,
         locals: List::new(alloc),
-        sender: s.sender,
+        taken: 0,
         turns,
         hits: List::new(alloc),
     })
@@ -33,12 +36,23 @@ fn zero_state(alloc: Global, p: &Program) -> Result<State, NoMemory>
     ensures { IfOk result (λ state. state ≡ zero_state p.now) }
 {
     let scalars = zeros(alloc, p.scalars.as_slice())?;
+    let maps = empty_maps(alloc, p.maps.as_slice())?;
     let arrays = empty_arrays(alloc, p.arrays.as_slice())?;
     Ok(State {
         scalars,
-        maps: List::new(alloc),
+        maps,
         arrays,
     })
+}
+
+fn empty_maps(alloc: Global, types: &[MapTy]) -> Result<List<MapVal>, NoMemory>
+    ensures { IfOk result (λ all. all ≡ map (λ t. []) types.now) }
+{
+    let mut all = List::new(alloc);
+    for _type in types {
+        all.push(MapVal::new(alloc))?;
+    }
+    Ok(all)
 }
 
 fn zeros(alloc: Global, types: &[Ty]) -> Result<List<i128>, NoMemory>
@@ -64,57 +78,75 @@ fn empty_arrays(alloc: Global, types: &[Ty]) -> Result<List<List<i128>>, NoMemor
 /// Each contract's initialisers and constructor, contract by contract.
 pub fn build_all(
     alloc: Global,
-    p: &Program,
+    r: &Running,
     given: &[i128],
     builds: &[Build],
     w: &mut World,
-) -> Result<End, NoMemory>
-    requires bodies { IsTrue (list_all fun_sized p.now.funs) }
+) -> Result<Got<End>, NoMemory>
+    requires bodies { IsTrue (list_all fun_sized r.now.program.now.funs) }
     requires initialisers { IsTrue (list_all build_sized builds.now) }
-    ensures { Ran (all_of (map (built p.now given.now) builds.now) w.old) result w.new }
+    ensures { Ran (all_of (map (built (frame_in r.now) given.now) builds.now) w.old) result w.new }
 {
     for b in builds {
-        match build(alloc, p, given, b, w)? {
-            End::Normal => {}
+        match build(alloc, r, given, b, w)? {
+            Got::Value(End::Normal) => {}
             other => return Ok(other),
         }
     }
-    Ok(End::Normal)
+    Ok(Got::Value(End::Normal))
 }
 
 fn build(
     alloc: Global,
-    p: &Program,
+    r: &Running,
     given: &[i128],
     b: &Build,
     w: &mut World,
-) -> Result<End, NoMemory>
-    requires bodies { IsTrue (list_all fun_sized p.now.funs) }
+) -> Result<Got<End>, NoMemory>
+    requires bodies { IsTrue (list_all fun_sized r.now.program.now.funs) }
     requires initialisers { IsTrue (build_sized b.now) }
-    ensures { Ran (built p.now given.now b.now w.old) result w.new }
+    ensures { Ran (built (frame_in r.now) given.now b.now w.old) result w.new }
 {
-    match exec_all(b.inits.as_slice(), w)? {
-        End::Normal => construct(alloc, p, given, b, w),
-        other => Ok(other),
+    match exec_all(b.inits.as_slice(), r, w)? {
+        Got::Value(_) => construct(alloc, r, given, b, w),
+        Got::Reverted => Ok(Got::Reverted),
+        Got::Cut => Ok(Got::Cut),
     }
 }
 
 fn construct(
     alloc: Global,
-    p: &Program,
+    r: &Running,
     given: &[i128],
     b: &Build,
     w: &mut World,
-) -> Result<End, NoMemory>
-    requires { IsTrue (list_all fun_sized p.now.funs) }
-    ensures { Ran (constructed p.now given.now b.now.fun b.now.args w.old) result w.new }
+) -> Result<Got<End>, NoMemory>
+    requires { IsTrue (list_all fun_sized r.now.program.now.funs) }
+    ensures { Ran (constructed (frame_in r.now) given.now b.now.fun b.now.args w.old) result w.new }
 {
     match b.fun {
-        None => Ok(End::Normal),
+        None => Ok(Got::Value(End::Normal)),
         Some(f) => {
             let args = build_args(alloc, given, b.args.as_slice())?;
-            call(alloc, p, f, args.as_slice(), w)
+            construct_by(alloc, r, f, args.as_slice(), w)
         }
+    }
+}
+
+fn construct_by(
+    alloc: Global,
+    r: &Running,
+    f: u32,
+    args: &[i128],
+    w: &mut World,
+) -> Result<Got<End>, NoMemory>
+    requires { IsTrue (list_all fun_sized r.now.program.now.funs) }
+    ensures { Ran (and_then ((frame_in r.now).level.call (frame_in r.now).caller (slice_get r.now.program.now.funs f) args.now w.old) (λ n. ends)) result w.new }
+{
+    match call(alloc, r, f, args, w)? {
+        Got::Value(_) => Ok(Got::Value(End::Normal)),
+        Got::Reverted => Ok(Got::Reverted),
+        Got::Cut => Ok(Got::Cut),
     }
 }
 

@@ -4,6 +4,7 @@
 
 mod calls;
 mod deployment;
+mod frames;
 mod hits;
 mod numbers;
 mod outcome;

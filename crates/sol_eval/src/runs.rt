@@ -1,19 +1,22 @@
 // Runs of scripts.
 
 ghost use Rattle.std.specs.List.{list_all};
-ghost use Rattle.std.specs.Prelude.{IsTrue, IfOk, None};
-ghost use Rattle.sol_meaning.specs.Run.{run, ran, call_each, call_once, settled};
+ghost use Rattle.std.specs.Prelude.{IsTrue, IfOk, None, false};
+ghost use Rattle.sol_meaning.specs.Exec.{call_each, call_once, settled};
+ghost use Rattle.sol_meaning.specs.Calling.{level_at};
+ghost use Rattle.sol_meaning.specs.Run.{run, ran};
 ghost use Rattle.sol_eval.specs.Ran.{Ran};
 ghost use Rattle.sol_eval.specs.Runs.{IsRun};
 ghost use Rattle.sol_eval.specs.Sized.{fun_sized, is_sized};
 
 use crate::calls::call_door;
 use crate::deployment::{build_all, fresh};
+use crate::frames::Running;
 use crate::hits::ascending;
 use crate::outcome::Run;
 use chc_nums::{List, NoMemory};
 use sol_core::{Call, Program, Script};
-use sol_meaning::{End, World};
+use sol_meaning::{Got, World};
 use std::alloc::Global;
 
 /// A script's run with a number of turns.
@@ -22,13 +25,18 @@ pub fn run(alloc: Global, p: &Program, s: &Script, turns: u32) -> Result<Run, No
     requires { IsTrue (is_sized p.now) }
     ensures { IfOk result (λ r. IsRun (run p.now s.now turns) r) }
 {
-    let mut w = fresh(alloc, p, s, turns)?;
-    match build_all(alloc, p, s.args.as_slice(), p.builds.as_slice(), &mut w)? {
-        End::Normal | End::Left | End::Broke | End::Continued => {
-            run_calls(alloc, p, s.calls.as_slice(), w)
-        }
-        End::Reverted => undeployed(w, false),
-        End::Cut => undeployed(w, true),
+    let mut w = fresh(alloc, p, turns)?;
+    let r = Running {
+        program: p,
+        level: turns,
+        sender: s.sender,
+        is_static: false,
+        replies: &[],
+    };
+    match build_all(alloc, &r, s.args.as_slice(), p.builds.as_slice(), &mut w)? {
+        Got::Value(_) => run_calls(alloc, p, turns, s.calls.as_slice(), w),
+        Got::Reverted => undeployed(w, false),
+        Got::Cut => undeployed(w, true),
     }
 }
 
@@ -43,12 +51,18 @@ fn undeployed(w: World, cut: bool) -> Result<Run, NoMemory>
     })
 }
 
-fn run_calls(alloc: Global, p: &Program, calls: &[Call], w: World) -> Result<Run, NoMemory>
+fn run_calls(
+    alloc: Global,
+    p: &Program,
+    level: u32,
+    calls: &[Call],
+    w: World,
+) -> Result<Run, NoMemory>
     requires { IsTrue (list_all fun_sized p.now.funs) }
-    ensures { IfOk result (λ r. IsRun (ran (call_each p.now calls.now w)) r) }
+    ensures { IfOk result (λ r. IsRun (ran (call_each (level_at p.now level) false calls.now w)) r) }
 {
     let mut w = w;
-    let cut = call_each(alloc, p, calls, &mut w)?;
+    let cut = call_each(alloc, p, level, calls, &mut w)?;
     ended(w, cut)
 }
 
@@ -64,12 +78,18 @@ fn ended(w: World, cut: bool) -> Result<Run, NoMemory>
 }
 
 // Calls one after another, until the run is cut: whether it was.
-fn call_each(alloc: Global, p: &Program, calls: &[Call], w: &mut World) -> Result<bool, NoMemory>
+fn call_each(
+    alloc: Global,
+    p: &Program,
+    level: u32,
+    calls: &[Call],
+    w: &mut World,
+) -> Result<bool, NoMemory>
     requires { IsTrue (list_all fun_sized p.now.funs) }
-    ensures { Ran (call_each p.now calls.now w.old) result w.new }
+    ensures { Ran (call_each (level_at p.now level) false calls.now w.old) result w.new }
 {
     for c in calls {
-        if call_once(alloc, p, c, w)? {
+        if call_once(alloc, p, level, c, w)? {
             return Ok(true);
         }
     }
@@ -78,23 +98,38 @@ fn call_each(alloc: Global, p: &Program, calls: &[Call], w: &mut World) -> Resul
 
 // Only scalars are ever written, so they alone are kept for a revert.
 #[tactic(auto, using(crate::proofs::Restored::restored))]
-fn call_once(alloc: Global, p: &Program, c: &Call, w: &mut World) -> Result<bool, NoMemory>
+fn call_once(
+    alloc: Global,
+    p: &Program,
+    level: u32,
+    c: &Call,
+    w: &mut World,
+) -> Result<bool, NoMemory>
     requires { IsTrue (list_all fun_sized p.now.funs) }
-    ensures { Ran (call_once p.now c.now w.old) result w.new }
+    ensures { Ran (call_once (level_at p.now level) false c.now w.old) result w.new }
 {
     let before = w.state.scalars.copy(alloc)?;
-    w.sender = c.sender;
-    let end = call_door(alloc, p, c.fun, c.args.as_slice(), w)?;
-    settle(before, end, w)
+    let taken = w.taken;
+    w.taken = 0;
+    let r = Running {
+        program: p,
+        level,
+        sender: c.sender,
+        is_static: false,
+        replies: c.replies.as_slice(),
+    };
+    let got = call_door(alloc, &r, c.fun, c.args.as_slice(), w)?;
+    w.taken = taken;
+    settle(before, got, w)
 }
 
-fn settle(before: List<i128>, end: End, w: &mut World) -> Result<bool, NoMemory>
-    ensures { Ran (settled (record w.old.state { scalars = before }) (end, w.old)) result w.new }
+fn settle(before: List<i128>, got: Got<i128>, w: &mut World) -> Result<bool, NoMemory>
+    ensures { Ran (settled false (record w.old { state = record w.old.state { scalars = before } }) (got, w.old)) result w.new }
 {
-    match end {
-        End::Normal | End::Left | End::Broke | End::Continued => Ok(false),
-        End::Reverted => undo(before, false, w),
-        End::Cut => undo(before, true, w),
+    match got {
+        Got::Value(_) => Ok(false),
+        Got::Reverted => undo(before, false, w),
+        Got::Cut => undo(before, true, w),
     }
 }
 

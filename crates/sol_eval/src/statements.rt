@@ -2,42 +2,48 @@
 
 ghost use Rattle.std.specs.Prelude.{◌≡◌, slice_set, IsTrue};
 ghost use Rattle.std.specs.List.{list_all};
+ghost use Rattle.sol_meaning.specs.Frames.{and_then};
 ghost use Rattle.sol_meaning.specs.Eval.{eval};
-ghost use Rattle.sol_meaning.specs.Exec.{exec, exec_all, after_value, write, required, asserted};
+ghost use Rattle.sol_meaning.specs.Exec.{exec, exec_all, assigned, required, asserted};
 ghost use Rattle.sol_eval.specs.Ran.{Ran, Kept};
-ghost use Rattle.sol_eval.specs.Sized.{expr_sized, stmt_sized};
+ghost use Rattle.sol_eval.specs.Framed.{frame_in};
+ghost use Rattle.sol_eval.specs.Sized.{expr_sized, place_sized, stmt_sized};
 
+use crate::frames::Running;
 use crate::numbers::is_zero;
-use crate::values::{eval, panic};
+use crate::values::{eval, panic_at};
 use chc_nums::{List, NoMemory};
 use sol_core::{Expr, Place, Stmt};
 use sol_meaning::{End, Got, World};
 
-/// Statements one after another.
-pub fn exec_all(ss: &[Stmt], w: &mut World) -> Result<End, NoMemory>
+/// Statements one after another, until one leaves.
+pub fn exec_all(ss: &[Stmt], r: &Running, w: &mut World) -> Result<Got<End>, NoMemory>
     requires { IsTrue (list_all stmt_sized ss.now) }
-    ensures ran { Ran (exec_all ss.now w.old) result w.new }
+    ensures ran { Ran (exec_all (frame_in r.now) ss.now w.old) result w.new }
     ensures kept { Kept w.old.state w.new.state }
 {
     for s in ss {
-        match exec(s, w)? {
-            End::Normal => {}
+        match exec(s, r, w)? {
+            Got::Value(End::Normal) => {}
             other => return Ok(other),
         }
     }
-    Ok(End::Normal)
+    Ok(Got::Value(End::Normal))
 }
 
-#[tactic(auto, using(sol_meaning::proofs::Statements::statements, crate::proofs::Sizes::forms))]
-fn exec(s: &Stmt, w: &mut World) -> Result<End, NoMemory>
+#[tactic(auto, using(sol_meaning::proofs::Statements::statements, crate::proofs::Sizes::forms, crate::proofs::Sizes::unsized))]
+fn exec(s: &Stmt, r: &Running, w: &mut World) -> Result<Got<End>, NoMemory>
     requires { IsTrue (stmt_sized s.now) }
-    ensures ran { Ran (exec s.now w.old) result w.new }
+    ensures ran { Ran (exec (frame_in r.now) s.now w.old) result w.new }
     ensures kept { Kept w.old.state w.new.state }
 {
     match s {
-        Stmt::Set(place, e) => exec_set(place, e, w),
-        Stmt::Require(e) => exec_require(e, w),
-        Stmt::Assert(e, site) => exec_assert(e, *site, w),
+        Stmt::Set(place, e) => exec_set(place, e, r, w),
+        Stmt::Require(e) => exec_require(e, r, w),
+        Stmt::Assert(e, site) => exec_assert(e, *site, r, w),
+        Stmt::Break => Ok(Got::Value(End::Broke)),
+        Stmt::Continue => Ok(Got::Value(End::Continued)),
+        Stmt::Leave => Ok(Got::Value(End::Left)),
         Stmt::Step(_, _, _, _, _, _)
         | Stmt::Push(_, _)
         | Stmt::Pop(_, _)
@@ -47,37 +53,43 @@ fn exec(s: &Stmt, w: &mut World) -> Result<End, NoMemory>
         | Stmt::If(_, _, _)
         | Stmt::While(_, _, _)
         | Stmt::DoWhile(_, _)
-        | Stmt::Break
-        | Stmt::Continue
-        | Stmt::Leave
         | Stmt::Scope(_)
         | Stmt::Revert(_)
-        | Stmt::Emit(_) => Ok(End::Reverted),
+        | Stmt::Emit(_) => Ok(Got::Reverted),
     }
 }
 
-fn exec_set(place: &Place, e: &Expr, w: &mut World) -> Result<End, NoMemory>
-    requires { IsTrue (expr_sized e.now) }
-    ensures ran { Ran (after_value (eval e.now w.old) (λ n v. write place.now n v)) result w.new }
+fn exec_set(place: &Place, e: &Expr, r: &Running, w: &mut World) -> Result<Got<End>, NoMemory>
+    requires value { IsTrue (expr_sized e.now) }
+    requires place { IsTrue (place_sized place.now) }
+    ensures ran { Ran (and_then (eval (frame_in r.now) e.now w.old) (assigned (frame_in r.now) place.now)) result w.new }
     ensures kept { Kept w.old.state w.new.state }
 {
-    match eval(e, w)? {
-        Got::Value(n) => write(place, n, w),
-        Got::Reverted => Ok(End::Reverted),
-        Got::Cut => Ok(End::Cut),
+    match eval(e, r, w)? {
+        Got::Value(n) => Ok(assign(place, n, r, w)),
+        Got::Reverted => Ok(Got::Reverted),
+        Got::Cut => Ok(Got::Cut),
     }
 }
 
-fn write(place: &Place, n: i128, w: &mut World) -> Result<End, NoMemory>
-    ensures ran { Ran (write place.now n w.old) result w.new }
+fn assign(place: &Place, n: i128, r: &Running, w: &mut World) -> Got<End>
+    requires { IsTrue (place_sized place.now) }
+    ensures ran { assigned (frame_in r.now) place.now n w.old ≡ (result, w.new) }
     ensures kept { Kept w.old.state w.new.state }
 {
     match place {
-        Place::Scalar(i) => {
-            set(&mut w.state.scalars, *i, n);
-            Ok(End::Normal)
+        Place::Local(i) => {
+            set(&mut w.locals, *i, n);
+            Got::Value(End::Normal)
         }
-        Place::Local(_) | Place::Map(_, _) | Place::Elem(_, _, _) => Ok(End::Reverted),
+        Place::Scalar(i) => {
+            if r.is_static {
+                return Got::Reverted;
+            }
+            set(&mut w.state.scalars, *i, n);
+            Got::Value(End::Normal)
+        }
+        Place::Map(_, _) | Place::Elem(_, _, _) => Got::Reverted,
     }
 }
 
@@ -89,41 +101,40 @@ fn set(all: &mut List<i128>, at: u32, n: i128)
     }
 }
 
-fn exec_require(e: &Expr, w: &mut World) -> Result<End, NoMemory>
+fn exec_require(e: &Expr, r: &Running, w: &mut World) -> Result<Got<End>, NoMemory>
     requires { IsTrue (expr_sized e.now) }
-    ensures ran { Ran (after_value (eval e.now w.old) (λ n v. required n v)) result w.new }
+    ensures ran { Ran (and_then (eval (frame_in r.now) e.now w.old) required) result w.new }
     ensures kept { Kept w.old.state w.new.state }
 {
-    match eval(e, w)? {
+    match eval(e, r, w)? {
         Got::Value(n) => Ok(if is_zero(n) {
-            End::Reverted
+            Got::Reverted
         } else {
-            End::Normal
+            Got::Value(End::Normal)
         }),
-        Got::Reverted => Ok(End::Reverted),
-        Got::Cut => Ok(End::Cut),
+        Got::Reverted => Ok(Got::Reverted),
+        Got::Cut => Ok(Got::Cut),
     }
 }
 
-fn exec_assert(e: &Expr, site: u32, w: &mut World) -> Result<End, NoMemory>
+fn exec_assert(e: &Expr, site: u32, r: &Running, w: &mut World) -> Result<Got<End>, NoMemory>
     requires { IsTrue (expr_sized e.now) }
-    ensures ran { Ran (after_value (eval e.now w.old) (λ n v. asserted site n v)) result w.new }
+    ensures ran { Ran (and_then (eval (frame_in r.now) e.now w.old) (asserted site)) result w.new }
     ensures kept { Kept w.old.state w.new.state }
 {
-    match eval(e, w)? {
+    match eval(e, r, w)? {
         Got::Value(n) => asserted(site, n, w),
-        Got::Reverted => Ok(End::Reverted),
-        Got::Cut => Ok(End::Cut),
+        Got::Reverted => Ok(Got::Reverted),
+        Got::Cut => Ok(Got::Cut),
     }
 }
 
-fn asserted(site: u32, n: i128, w: &mut World) -> Result<End, NoMemory>
+fn asserted(site: u32, n: i128, w: &mut World) -> Result<Got<End>, NoMemory>
     ensures ran { Ran (asserted site n w.old) result w.new }
     ensures kept { Kept w.old.state w.new.state }
 {
     if is_zero(n) {
-        let _ = panic(Some(site), w)?;
-        return Ok(End::Reverted);
+        return panic_at(site, w);
     }
-    Ok(End::Normal)
+    Ok(Got::Value(End::Normal))
 }

@@ -1,20 +1,25 @@
 // The values of expressions.
 
-ghost use Rattle.std.specs.Prelude.{◌≡◌, IsTrue};
-ghost use Rattle.chc_nums.specs.Types.{judged};
+ghost use Rattle.std.specs.Prelude.{◌≡◌, IsTrue, true};
+ghost use lib.IntN.{ℤ};
+ghost use Rattle.chc_nums.specs.Wrapping.{wrapped};
+ghost use Rattle.sol_meaning.specs.declared.world.End.{End};
 ghost use Rattle.sol_meaning.specs.declared.world.Got.TheVariants as got;
-ghost use Rattle.sol_meaning.specs.Eval.{eval, then_value, arithmetic, compared, truth, wrapped, panic};
+ghost use Rattle.sol_meaning.specs.Frames.{and_then, panic};
+ghost use Rattle.sol_meaning.specs.Eval.{eval, second_of, operated, arithmetic, compared, truth};
 ghost use Rattle.sol_eval.specs.Ran.{Ran};
+ghost use Rattle.sol_eval.specs.Framed.{frame_in};
 ghost use Rattle.sol_eval.specs.Sized.{type_sized, expr_sized};
 
-use crate::numbers::{compared, judged, number_at, truth, wrapped};
+use crate::frames::Running;
+use crate::numbers::{compared, is_zero, judged, number_at, truth, wrapped};
 use chc_nums::{NoMemory, Num, Op, Ty};
 use sol_core::{Cmp, Expr, PanicSites};
-use sol_meaning::{Got, World};
+use sol_meaning::{End, Got, World};
 
-/// A panic adds its target, where it has one.
-pub fn panic(site: Option<u32>, w: &mut World) -> Result<Got, NoMemory>
-    ensures ran { Ran (panic site w.old) result w.new }
+// A panic adds its target, where it has one.
+fn panic(site: Option<u32>, w: &mut World) -> Result<Got<i128>, NoMemory>
+    ensures ran { Ran (panic {A = ℤ} site w.old) result w.new }
     ensures kept { w.new.state ≡ w.old.state }
 {
     match site {
@@ -26,7 +31,16 @@ pub fn panic(site: Option<u32>, w: &mut World) -> Result<Got, NoMemory>
     }
 }
 
-fn arithmetic(n: Num, panics: PanicSites, w: &mut World) -> Result<Got, NoMemory>
+/// A panic in a statement.
+pub fn panic_at(site: u32, w: &mut World) -> Result<Got<End>, NoMemory>
+    ensures ran { Ran (panic {A = End} (Some site) w.old) result w.new }
+    ensures kept { w.new.state ≡ w.old.state }
+{
+    w.hits.push(site)?;
+    Ok(Got::Reverted)
+}
+
+fn arithmetic(n: Num, panics: PanicSites, w: &mut World) -> Result<Got<i128>, NoMemory>
     ensures ran { Ran (arithmetic n panics w.old) result w.new }
     ensures kept { w.new.state ≡ w.old.state }
 {
@@ -38,7 +52,7 @@ fn arithmetic(n: Num, panics: PanicSites, w: &mut World) -> Result<Got, NoMemory
     }
 }
 
-fn cast(ty: Ty, x: i128, w: &mut World) -> Result<Got, NoMemory>
+fn cast(ty: Ty, x: i128, w: &mut World) -> Result<Got<i128>, NoMemory>
     requires { IsTrue (type_sized ty) }
     ensures ran { Ran (got.Value (wrapped ty x), w.old) result w.new }
     ensures kept { w.new.state ≡ w.old.state }
@@ -48,41 +62,40 @@ fn cast(ty: Ty, x: i128, w: &mut World) -> Result<Got, NoMemory>
 
 /// The value of an expression.
 #[cycle(eval)]
-#[tactic(auto, using(sol_meaning::proofs::Values::values, crate::proofs::Checked::checked, crate::proofs::Sizes::expressions))]
-pub fn eval(e: &Expr, w: &mut World) -> Result<Got, NoMemory>
+#[tactic(auto, using(sol_meaning::proofs::Values::values, crate::proofs::Sizes::expressions, crate::proofs::Sizes::unsized))]
+pub fn eval(e: &Expr, r: &Running, w: &mut World) -> Result<Got<i128>, NoMemory>
     requires { IsTrue (expr_sized e.now) }
-    ensures ran { Ran (eval e.now w.old) result w.new }
+    ensures ran { Ran (eval (frame_in r.now) e.now w.old) result w.new }
     ensures kept { w.new.state ≡ w.old.state }
 {
     match e {
         Expr::Num(n, _) => Ok(Got::Value(*n)),
+        Expr::Local(i) => Ok(Got::Value(number_at(w.locals.as_slice(), *i))),
         Expr::Scalar(i) => Ok(Got::Value(number_at(w.state.scalars.as_slice(), *i))),
-        Expr::Arith(op, ty, checked, a, b, panics) => {
-            if !*checked {
-                return Ok(Got::Reverted);
-            }
-            match eval(a.get(), w)? {
-                Got::Value(x) => arith_to(b.get(), *op, *ty, x, *panics, w),
-                Got::Reverted => Ok(Got::Reverted),
-                Got::Cut => Ok(Got::Cut),
-            }
-        }
-        Expr::Compare(cmp, a, b) => match eval(a.get(), w)? {
-            Got::Value(x) => compare_to(b.get(), *cmp, x, w),
+        Expr::Sender => Ok(Got::Value(r.sender)),
+        Expr::Arith(op, ty, checked, a, b, panics) => match eval(a.get(), r, w)? {
+            Got::Value(x) => arith_to(b.get(), r, *op, *ty, *checked, x, *panics, w),
             Got::Reverted => Ok(Got::Reverted),
             Got::Cut => Ok(Got::Cut),
         },
-        Expr::Cast(_, ty, a) => match eval(a.get(), w)? {
+        Expr::Compare(cmp, a, b) => match eval(a.get(), r, w)? {
+            Got::Value(x) => compare_to(b.get(), r, *cmp, x, w),
+            Got::Reverted => Ok(Got::Reverted),
+            Got::Cut => Ok(Got::Cut),
+        },
+        Expr::Not(a) => match eval(a.get(), r, w)? {
+            Got::Value(x) => Ok(Got::Value(truth(is_zero(x)))),
+            Got::Reverted => Ok(Got::Reverted),
+            Got::Cut => Ok(Got::Cut),
+        },
+        Expr::Cast(_, ty, a) => match eval(a.get(), r, w)? {
             Got::Value(x) => cast(*ty, x, w),
             Got::Reverted => Ok(Got::Reverted),
             Got::Cut => Ok(Got::Cut),
         },
-        Expr::Local(_)
-        | Expr::MapAt(_, _)
+        Expr::MapAt(_, _)
         | Expr::ElemAt(_, _, _)
         | Expr::Len(_)
-        | Expr::Sender
-        | Expr::Not(_)
         | Expr::Both(_, _)
         | Expr::Either(_, _)
         | Expr::Pick(_, _, _)
@@ -93,31 +106,53 @@ pub fn eval(e: &Expr, w: &mut World) -> Result<Got, NoMemory>
 #[cycle(eval)]
 fn arith_to(
     b: &Expr,
+    r: &Running,
     op: Op,
     ty: Ty,
+    checked: bool,
     x: i128,
     panics: PanicSites,
     w: &mut World,
-) -> Result<Got, NoMemory>
+) -> Result<Got<i128>, NoMemory>
     requires operand { IsTrue (expr_sized b.now) }
     requires size { IsTrue (type_sized ty) }
-    ensures ran { Ran (then_value (eval b.now w.old) (λ y u. arithmetic (judged op ty x y) panics u)) result w.new }
+    requires checked { IsTrue checked }
+    ensures ran { Ran (and_then (second_of op (eval (frame_in r.now) b.now) w.old) (λ y u. arithmetic (operated checked op ty x y) panics u)) result w.new }
     ensures kept { w.new.state ≡ w.old.state }
 {
-    match eval(b, w)? {
+    match second_of(b, r, op, w)? {
         Got::Value(y) => arithmetic(judged(op, ty, x, y), panics, w),
         Got::Reverted => Ok(Got::Reverted),
         Got::Cut => Ok(Got::Cut),
     }
 }
 
+// A negation reads its first operand alone.
 #[cycle(eval)]
-fn compare_to(b: &Expr, cmp: Cmp, x: i128, w: &mut World) -> Result<Got, NoMemory>
+fn second_of(b: &Expr, r: &Running, op: Op, w: &mut World) -> Result<Got<i128>, NoMemory>
     requires { IsTrue (expr_sized b.now) }
-    ensures ran { Ran (then_value (eval b.now w.old) (λ y u. (got.Value (truth (compared cmp x y)), u))) result w.new }
+    ensures ran { Ran (second_of op (eval (frame_in r.now) b.now) w.old) result w.new }
     ensures kept { w.new.state ≡ w.old.state }
 {
-    match eval(b, w)? {
+    match op {
+        Op::Add | Op::Sub | Op::Mul | Op::Div | Op::Rem => eval(b, r, w),
+        Op::Neg => Ok(Got::Value(0)),
+    }
+}
+
+#[cycle(eval)]
+fn compare_to(
+    b: &Expr,
+    r: &Running,
+    cmp: Cmp,
+    x: i128,
+    w: &mut World,
+) -> Result<Got<i128>, NoMemory>
+    requires { IsTrue (expr_sized b.now) }
+    ensures ran { Ran (and_then (eval (frame_in r.now) b.now w.old) (λ y u. (got.Value (truth (compared cmp x y)), u))) result w.new }
+    ensures kept { w.new.state ≡ w.old.state }
+{
+    match eval(b, r, w)? {
         Got::Value(y) => Ok(Got::Value(truth(compared(cmp, x, y)))),
         Got::Reverted => Ok(Got::Reverted),
         Got::Cut => Ok(Got::Cut),

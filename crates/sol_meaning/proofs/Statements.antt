@@ -1,90 +1,93 @@
 -- What each kind of statement does.
-use Rattle.std.proofs.Common.{◌≡◌, ◌∙◌, sym, ap, ℕ, List, Bool, Option}
+use Rattle.std.proofs.Common.{◌≡◌, ◌∙◌, sym, ap, ℕ, List, Bool, Option, map, slice_get, if◌then◌else◌}
+use lib.IntN.{ℤ}
 use Rattle.chc_nums.specs.declared.Ty.{Ty}
 use Rattle.chc_nums.specs.declared.Op.{Op}
 use Rattle.sol_core.specs.declared.PanicSites.{PanicSites}
-use Rattle.sol_meaning.specs.declared.world.End.TheVariants as done
 use Rattle.sol_core.specs.declared.Expr.{Expr}
 use Rattle.sol_core.specs.declared.Place.{Place}
-use Rattle.sol_core.specs.declared.Stmt.{Stmt, Set, Require, Assert, Step, Push, Pop, Clear, Call, Out, If, While, DoWhile, Break, Continue, Leave, Scope, Revert, Emit}
-use Rattle.sol_core.specs.declared.Stmt.TheVariants.{rolls-Set, rolls-Require, rolls-Assert, rolls-Step, rolls-Push, rolls-Pop, rolls-Clear, rolls-Call, rolls-Out, rolls-If, rolls-While, rolls-DoWhile, rolls-Break, rolls-Continue, rolls-Leave, rolls-Scope, rolls-Revert, rolls-Emit}
+use Rattle.sol_core.specs.declared.Stmt.{Stmt, Set, Step, Push, Pop, Clear, Call, Out, If, While, DoWhile, Break, Continue, Leave, Scope, Require, Assert, Revert, Emit}
+use Rattle.sol_core.specs.declared.Stmt.TheVariants.{rolls-Set, rolls-Step, rolls-Push, rolls-Pop, rolls-Clear, rolls-Call, rolls-Out, rolls-If, rolls-While, rolls-DoWhile, rolls-Break, rolls-Continue, rolls-Leave, rolls-Scope, rolls-Require, rolls-Assert, rolls-Revert, rolls-Emit}
 use Rattle.sol_core.specs.declared.Stmt.TheOpen.{Stmt-F}
 use Rattle.sol_core.specs.declared.Stmt.TheFolds.{fold-Stmt, fold-roll-Stmt}
 use Rattle.sol_meaning.specs.declared.world.World.{World}
-use Rattle.sol_meaning.specs.Eval.{eval}
-use Rattle.sol_meaning.specs.Exec.{Done, exec, exec_step, after_value, write, required, asserted}
+use Rattle.sol_meaning.specs.declared.world.Got.TheVariants as got
+use Rattle.sol_meaning.specs.declared.world.End.{End}
+use Rattle.sol_meaning.specs.declared.world.End.TheVariants as done
+use Rattle.sol_meaning.specs.Frames.{Run, and_then, Frame}
+use Rattle.sol_meaning.specs.Eval.{eval, is_zero, operated, arithmetic, values_of}
+use Rattle.sol_meaning.specs.Exec.{exec, exec_all, exec_step, ends, assigned, located, held, stored, changed, given, pushed, popped, cleared, scoped, required, asserted, goes_on, tested, looped, replied}
 
-pub exec-Set : (p : Place) (e : Expr) (w : World) → exec (Set p e) w ≡ after_value (eval e w) (λ n v. write p n v)
+pub exec-Set : (f : Frame) (p : Place) (e : Expr) (w : World) → exec f (Set p e) w ≡ and_then (eval f e w) (assigned f p)
 unfolding exec exec_step
-exec-Set p e w = ap (λ (z : Stmt). fold-Stmt Done exec_step z w) (sym (rolls-Set p e)) ∙ ap (λ (f : Done). f w) (fold-roll-Stmt Done exec_step (Stmt-F.Set p e))
+exec-Set f p e w = ap (λ (z : Stmt). fold-Stmt (Run End) (exec_step f) z w) (sym (rolls-Set p e)) ∙ ap (λ (g : Run End). g w) (fold-roll-Stmt (Run End) (exec_step f) (Stmt-F.Set p e))
 
-pub exec-Require : (e : Expr) (w : World) → exec (Require e) w ≡ after_value (eval e w) (λ n v. required n v)
+pub exec-Step : (f : Frame) (p : Place) (o : Op) (t : Ty) (checked : Bool) (e : Expr) (m : PanicSites) (w : World) → exec f (Step p o t checked e m) w ≡ and_then (eval f e w) (λ y v. and_then (located f p v) (λ s u. and_then (arithmetic (operated checked o t (held u s) y) m u) (λ z. stored f z s)))
 unfolding exec exec_step
-exec-Require e w = ap (λ (z : Stmt). fold-Stmt Done exec_step z w) (sym (rolls-Require e)) ∙ ap (λ (f : Done). f w) (fold-roll-Stmt Done exec_step (Stmt-F.Require e))
+exec-Step f p o t checked e m w = ap (λ (z : Stmt). fold-Stmt (Run End) (exec_step f) z w) (sym (rolls-Step p o t checked e m)) ∙ ap (λ (g : Run End). g w) (fold-roll-Stmt (Run End) (exec_step f) (Stmt-F.Step p o t checked e m))
 
-pub exec-Assert : (e : Expr) (site : ℕ) (w : World) → exec (Assert e site) w ≡ after_value (eval e w) (λ n v. asserted site n v)
+pub exec-Push : (f : Frame) (a : ℕ) (e : Expr) (w : World) → exec f (Push a e) w ≡ and_then (eval f e w) (pushed f a)
 unfolding exec exec_step
-exec-Assert e site w = ap (λ (z : Stmt). fold-Stmt Done exec_step z w) (sym (rolls-Assert e site)) ∙ ap (λ (f : Done). f w) (fold-roll-Stmt Done exec_step (Stmt-F.Assert e site))
+exec-Push f a e w = ap (λ (z : Stmt). fold-Stmt (Run End) (exec_step f) z w) (sym (rolls-Push a e)) ∙ ap (λ (g : Run End). g w) (fold-roll-Stmt (Run End) (exec_step f) (Stmt-F.Push a e))
 
--- the forms that have no meaning yet
-pub exec-Step : (p : Place) (o : Op) (t : Ty) (c : Bool) (e : Expr) (m : PanicSites) (w : World) → exec (Step p o t c e m) w ≡ (done.Reverted, w)
+pub exec-Pop : (f : Frame) (a : ℕ) (site : ℕ) (w : World) → exec f (Pop a site) w ≡ popped f a site w
 unfolding exec exec_step
-exec-Step p o t c e m w = ap (λ (z : Stmt). fold-Stmt Done exec_step z w) (sym (rolls-Step p o t c e m)) ∙ ap (λ (f : Done). f w) (fold-roll-Stmt Done exec_step (Stmt-F.Step p o t c e m))
+exec-Pop f a site w = ap (λ (z : Stmt). fold-Stmt (Run End) (exec_step f) z w) (sym (rolls-Pop a site)) ∙ ap (λ (g : Run End). g w) (fold-roll-Stmt (Run End) (exec_step f) (Stmt-F.Pop a site))
 
-pub exec-Push : (a : ℕ) (e : Expr) (w : World) → exec (Push a e) w ≡ (done.Reverted, w)
+pub exec-Clear : (f : Frame) (a : ℕ) (w : World) → exec f (Clear a) w ≡ cleared f a w
 unfolding exec exec_step
-exec-Push a e w = ap (λ (z : Stmt). fold-Stmt Done exec_step z w) (sym (rolls-Push a e)) ∙ ap (λ (f : Done). f w) (fold-roll-Stmt Done exec_step (Stmt-F.Push a e))
+exec-Clear f a w = ap (λ (z : Stmt). fold-Stmt (Run End) (exec_step f) z w) (sym (rolls-Clear a)) ∙ ap (λ (g : Run End). g w) (fold-roll-Stmt (Run End) (exec_step f) (Stmt-F.Clear a))
 
-pub exec-Pop : (a : ℕ) (site : ℕ) (w : World) → exec (Pop a site) w ≡ (done.Reverted, w)
+pub exec-Call : (f : Frame) (p : Option Place) (g : ℕ) (es : List Expr) (w : World) → exec f (Call p g es) w ≡ and_then (values_of (map (eval f) es) w) (λ args v. and_then (f.level.call f.caller (slice_get f.level.program.funs g) args v) (given f p))
 unfolding exec exec_step
-exec-Pop a site w = ap (λ (z : Stmt). fold-Stmt Done exec_step z w) (sym (rolls-Pop a site)) ∙ ap (λ (f : Done). f w) (fold-roll-Stmt Done exec_step (Stmt-F.Pop a site))
+exec-Call f p g es w = ap (λ (z : Stmt). fold-Stmt (Run End) (exec_step f) z w) (sym (rolls-Call p g es)) ∙ ap (λ (g : Run End). g w) (fold-roll-Stmt (Run End) (exec_step f) (Stmt-F.Call p g es))
 
-pub exec-Clear : (a : ℕ) (w : World) → exec (Clear a) w ≡ (done.Reverted, w)
+pub exec-Out : (f : Frame) (p : Option Place) (o : ℕ) (e : Expr) (es : List Expr) (w : World) → exec f (Out p o e es) w ≡ and_then (eval f e w) (λ target v. and_then (values_of (map (eval f) es) v) (λ args u. replied f p (slice_get f.level.program.outs o) (slice_get f.caller.replies u.taken) u))
 unfolding exec exec_step
-exec-Clear a w = ap (λ (z : Stmt). fold-Stmt Done exec_step z w) (sym (rolls-Clear a)) ∙ ap (λ (f : Done). f w) (fold-roll-Stmt Done exec_step (Stmt-F.Clear a))
+exec-Out f p o e es w = ap (λ (z : Stmt). fold-Stmt (Run End) (exec_step f) z w) (sym (rolls-Out p o e es)) ∙ ap (λ (g : Run End). g w) (fold-roll-Stmt (Run End) (exec_step f) (Stmt-F.Out p o e es))
 
-pub exec-Call : (p : Option Place) (g : ℕ) (es : List Expr) (w : World) → exec (Call p g es) w ≡ (done.Reverted, w)
+pub exec-If : (f : Frame) (e : Expr) (a b : List Stmt) (w : World) → exec f (If e a b) w ≡ and_then (eval f e w) (λ n v. if is_zero n then exec_all f b v else exec_all f a v)
 unfolding exec exec_step
-exec-Call p g es w = ap (λ (z : Stmt). fold-Stmt Done exec_step z w) (sym (rolls-Call p g es)) ∙ ap (λ (f : Done). f w) (fold-roll-Stmt Done exec_step (Stmt-F.Call p g es))
+exec-If f e a b w = ap (λ (z : Stmt). fold-Stmt (Run End) (exec_step f) z w) (sym (rolls-If e a b)) ∙ ap (λ (g : Run End). g w) (fold-roll-Stmt (Run End) (exec_step f) (Stmt-F.If e a b))
 
-pub exec-Out : (p : Option Place) (g : ℕ) (e : Expr) (es : List Expr) (w : World) → exec (Out p g e es) w ≡ (done.Reverted, w)
+pub exec-While : (f : Frame) (e : Expr) (a b : List Stmt) (w : World) → exec f (While e a b) w ≡ and_then (tested (eval f e) w) (λ o. goes_on o (looped f.level.loops (eval f e) (exec_all f a) (exec_all f b)))
 unfolding exec exec_step
-exec-Out p g e es w = ap (λ (z : Stmt). fold-Stmt Done exec_step z w) (sym (rolls-Out p g e es)) ∙ ap (λ (f : Done). f w) (fold-roll-Stmt Done exec_step (Stmt-F.Out p g e es))
+exec-While f e a b w = ap (λ (z : Stmt). fold-Stmt (Run End) (exec_step f) z w) (sym (rolls-While e a b)) ∙ ap (λ (g : Run End). g w) (fold-roll-Stmt (Run End) (exec_step f) (Stmt-F.While e a b))
 
-pub exec-If : (e : Expr) (a : List Stmt) (b : List Stmt) (w : World) → exec (If e a b) w ≡ (done.Reverted, w)
+pub exec-DoWhile : (f : Frame) (a : List Stmt) (e : Expr) (w : World) → exec f (DoWhile a e) w ≡ looped f.level.loops (eval f e) (exec_all f a) ends w
 unfolding exec exec_step
-exec-If e a b w = ap (λ (z : Stmt). fold-Stmt Done exec_step z w) (sym (rolls-If e a b)) ∙ ap (λ (f : Done). f w) (fold-roll-Stmt Done exec_step (Stmt-F.If e a b))
+exec-DoWhile f a e w = ap (λ (z : Stmt). fold-Stmt (Run End) (exec_step f) z w) (sym (rolls-DoWhile a e)) ∙ ap (λ (g : Run End). g w) (fold-roll-Stmt (Run End) (exec_step f) (Stmt-F.DoWhile a e))
 
-pub exec-While : (e : Expr) (a : List Stmt) (b : List Stmt) (w : World) → exec (While e a b) w ≡ (done.Reverted, w)
+pub exec-Break : (f : Frame) (w : World) → exec f Break w ≡ (got.Value done.Broke, w)
 unfolding exec exec_step
-exec-While e a b w = ap (λ (z : Stmt). fold-Stmt Done exec_step z w) (sym (rolls-While e a b)) ∙ ap (λ (f : Done). f w) (fold-roll-Stmt Done exec_step (Stmt-F.While e a b))
+exec-Break f w = ap (λ (z : Stmt). fold-Stmt (Run End) (exec_step f) z w) (sym rolls-Break) ∙ ap (λ (g : Run End). g w) (fold-roll-Stmt (Run End) (exec_step f) Stmt-F.Break)
 
-pub exec-DoWhile : (a : List Stmt) (e : Expr) (w : World) → exec (DoWhile a e) w ≡ (done.Reverted, w)
+pub exec-Continue : (f : Frame) (w : World) → exec f Continue w ≡ (got.Value done.Continued, w)
 unfolding exec exec_step
-exec-DoWhile a e w = ap (λ (z : Stmt). fold-Stmt Done exec_step z w) (sym (rolls-DoWhile a e)) ∙ ap (λ (f : Done). f w) (fold-roll-Stmt Done exec_step (Stmt-F.DoWhile a e))
+exec-Continue f w = ap (λ (z : Stmt). fold-Stmt (Run End) (exec_step f) z w) (sym rolls-Continue) ∙ ap (λ (g : Run End). g w) (fold-roll-Stmt (Run End) (exec_step f) Stmt-F.Continue)
 
-pub exec-Break : (w : World) → exec Break w ≡ (done.Reverted, w)
+pub exec-Leave : (f : Frame) (w : World) → exec f Leave w ≡ (got.Value done.Left, w)
 unfolding exec exec_step
-exec-Break w = ap (λ (z : Stmt). fold-Stmt Done exec_step z w) (sym rolls-Break) ∙ ap (λ (f : Done). f w) (fold-roll-Stmt Done exec_step Stmt-F.Break)
+exec-Leave f w = ap (λ (z : Stmt). fold-Stmt (Run End) (exec_step f) z w) (sym rolls-Leave) ∙ ap (λ (g : Run End). g w) (fold-roll-Stmt (Run End) (exec_step f) Stmt-F.Leave)
 
-pub exec-Continue : (w : World) → exec Continue w ≡ (done.Reverted, w)
+pub exec-Scope : (f : Frame) (a : List Stmt) (w : World) → exec f (Scope a) w ≡ and_then (exec_all f a w) (λ e v. (got.Value (scoped e), v))
 unfolding exec exec_step
-exec-Continue w = ap (λ (z : Stmt). fold-Stmt Done exec_step z w) (sym rolls-Continue) ∙ ap (λ (f : Done). f w) (fold-roll-Stmt Done exec_step Stmt-F.Continue)
+exec-Scope f a w = ap (λ (z : Stmt). fold-Stmt (Run End) (exec_step f) z w) (sym (rolls-Scope a)) ∙ ap (λ (g : Run End). g w) (fold-roll-Stmt (Run End) (exec_step f) (Stmt-F.Scope a))
 
-pub exec-Leave : (w : World) → exec Leave w ≡ (done.Reverted, w)
+pub exec-Require : (f : Frame) (e : Expr) (w : World) → exec f (Require e) w ≡ and_then (eval f e w) required
 unfolding exec exec_step
-exec-Leave w = ap (λ (z : Stmt). fold-Stmt Done exec_step z w) (sym rolls-Leave) ∙ ap (λ (f : Done). f w) (fold-roll-Stmt Done exec_step Stmt-F.Leave)
+exec-Require f e w = ap (λ (z : Stmt). fold-Stmt (Run End) (exec_step f) z w) (sym (rolls-Require e)) ∙ ap (λ (g : Run End). g w) (fold-roll-Stmt (Run End) (exec_step f) (Stmt-F.Require e))
 
-pub exec-Scope : (a : List Stmt) (w : World) → exec (Scope a) w ≡ (done.Reverted, w)
+pub exec-Assert : (f : Frame) (e : Expr) (site : ℕ) (w : World) → exec f (Assert e site) w ≡ and_then (eval f e w) (asserted site)
 unfolding exec exec_step
-exec-Scope a w = ap (λ (z : Stmt). fold-Stmt Done exec_step z w) (sym (rolls-Scope a)) ∙ ap (λ (f : Done). f w) (fold-roll-Stmt Done exec_step (Stmt-F.Scope a))
+exec-Assert f e site w = ap (λ (z : Stmt). fold-Stmt (Run End) (exec_step f) z w) (sym (rolls-Assert e site)) ∙ ap (λ (g : Run End). g w) (fold-roll-Stmt (Run End) (exec_step f) (Stmt-F.Assert e site))
 
-pub exec-Revert : (es : List Expr) (w : World) → exec (Revert es) w ≡ (done.Reverted, w)
+pub exec-Revert : (f : Frame) (es : List Expr) (w : World) → exec f (Revert es) w ≡ and_then (values_of (map (eval f) es) w) (λ ns v. (got.Reverted, v))
 unfolding exec exec_step
-exec-Revert es w = ap (λ (z : Stmt). fold-Stmt Done exec_step z w) (sym (rolls-Revert es)) ∙ ap (λ (f : Done). f w) (fold-roll-Stmt Done exec_step (Stmt-F.Revert es))
+exec-Revert f es w = ap (λ (z : Stmt). fold-Stmt (Run End) (exec_step f) z w) (sym (rolls-Revert es)) ∙ ap (λ (g : Run End). g w) (fold-roll-Stmt (Run End) (exec_step f) (Stmt-F.Revert es))
 
-pub exec-Emit : (es : List Expr) (w : World) → exec (Emit es) w ≡ (done.Reverted, w)
+pub exec-Emit : (f : Frame) (es : List Expr) (w : World) → exec f (Emit es) w ≡ and_then (values_of (map (eval f) es) w) (λ ns. changed f (λ s. s))
 unfolding exec exec_step
-exec-Emit es w = ap (λ (z : Stmt). fold-Stmt Done exec_step z w) (sym (rolls-Emit es)) ∙ ap (λ (f : Done). f w) (fold-roll-Stmt Done exec_step (Stmt-F.Emit es))
+exec-Emit f es w = ap (λ (z : Stmt). fold-Stmt (Run End) (exec_step f) z w) (sym (rolls-Emit es)) ∙ ap (λ (g : Run End). g w) (fold-roll-Stmt (Run End) (exec_step f) (Stmt-F.Emit es))
 
-pub ruleset statements = (exec-Set, exec-Require, exec-Assert, exec-Step, exec-Push, exec-Pop, exec-Clear, exec-Call, exec-Out, exec-If, exec-While, exec-DoWhile, exec-Break, exec-Continue, exec-Leave, exec-Scope, exec-Revert, exec-Emit)
+pub ruleset statements = (exec-Set, exec-Step, exec-Push, exec-Pop, exec-Clear, exec-Call, exec-Out, exec-If, exec-While, exec-DoWhile, exec-Break, exec-Continue, exec-Leave, exec-Scope, exec-Require, exec-Assert, exec-Revert, exec-Emit)

@@ -4,4 +4,4 @@
 
 mod world;
 
-pub use world::{End, Got, World};
+pub use world::{End, Got, Spot, World};

@@ -3,9 +3,9 @@ use Rattle.std.specs.Prelude.{FitsSigned}
 use Rattle.std.specs.Int.{w128}
 use lib.IntN.{ℤ}
 use Rattle.std.proofs.lemmas.Int.{to_z-of_z}
-use Rattle.sol_meaning.specs.Eval.{modulo}
-use Rattle.sol_eval.proofs.Halves.{modulo-half}
-use Rattle.sol_eval.proofs.numbers.lowered.Goals as goal
+use Rattle.chc_nums.specs.Wrapping.{modulo}
+use Rattle.chc_nums.proofs.HalfTypes.{modulo-half}
+use Rattle.chc_nums.proofs.wrapping.lowered.Goals as goal
 
 pub returns : goal.returns
 returns c =
