@@ -10,7 +10,7 @@ use Rattle.chc_nums.specs.declared.Op.{Op}
 use Rattle.chc_nums.specs.declared.Op.TheVariants as op
 use Rattle.chc_nums.specs.declared.Num.TheVariants as num
 use Rattle.chc_nums.specs.Types.{InRange, least, greatest, placed, judged}
-use Rattle.chc_nums.specs.Wrapping.{wrapped}
+use Rattle.sol_core.specs.Wrapping.{wrapped}
 use Rattle.sol_core.specs.declared.PanicSites.{PanicSites}
 use Rattle.sol_core.specs.declared.Expr.{Expr, Cast}
 use Rattle.sol_core.specs.declared.Place.TheVariants as place

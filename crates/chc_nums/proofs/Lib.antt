@@ -5,4 +5,3 @@ pub mod Ranges
 pub mod Ring
 pub mod Halves
 pub mod Values
-pub mod HalfTypes

@@ -1,5 +1,4 @@
 pub mod Types
 pub mod Values
 pub mod Wide
-pub mod Wrapping
 pub mod Totals

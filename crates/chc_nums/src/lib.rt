@@ -8,7 +8,6 @@ mod limits;
 mod total;
 mod typed;
 mod wide;
-mod wrapping;
 
 pub use limits::{
     MAX_CANDIDATES, MAX_FILE_BYTES, MAX_FUNCTIONS, MAX_LEMMAS, MAX_LEVELS, MAX_LOCALS, MAX_NODES,
@@ -20,4 +19,3 @@ pub use typed::{Num, Op, Ty, checked_op, division_laws, power, range};
 pub use wide::{
     add_product, difference, gcd, mul_add, mul_add_in, opposite, product, quotient, remainder, sum,
 };
-pub use wrapping::wrapped;

@@ -3,3 +3,4 @@ pub mod Stating
 pub mod Visiting
 pub mod Typed
 pub mod Fitting
+pub mod HalfTypes

@@ -1,5 +1,6 @@
 pub mod Values
 pub mod Mappings
+pub mod Wrapping
 pub mod Doors
 pub mod Fits
 pub mod ScriptFaults

@@ -14,6 +14,7 @@ mod state;
 mod statements;
 mod types_of;
 mod values;
+mod wrapping;
 
 pub use doors::{door, params_of};
 pub use forming::formed;
@@ -24,3 +25,4 @@ pub use program::{
 pub use script::{Answer, Call, Reply, Script};
 pub use script_faults::{ScriptFault, check_script, fitting_law};
 pub use state::{MapVal, State};
+pub use wrapping::wrapped;

@@ -239,4 +239,4 @@ pub ruleset forms = (set-value, set-place, require-condition, assert-condition)
 pub ruleset sized = (sized-Num, sized-Local, sized-Scalar, sized-Sender, sized-Arith, sized-Compare, sized-Not, sized-Cast, sized-Set, sized-Break, sized-Continue, sized-Leave, sized-Require, sized-Assert)
 
 -- the forms that are not
-pub ruleset unsized = (sized-MapAt, sized-ElemAt, sized-Len, sized-Both, sized-Either, sized-Pick, sized-Call, sized-Step, sized-Push, sized-Pop, sized-Clear, sized-StmtCall, sized-Out, sized-If, sized-While, sized-DoWhile, sized-Scope, sized-Revert, sized-Emit)
+pub ruleset excluded = (sized-MapAt, sized-ElemAt, sized-Len, sized-Both, sized-Either, sized-Pick, sized-Call, sized-Step, sized-Push, sized-Pop, sized-Clear, sized-StmtCall, sized-Out, sized-If, sized-While, sized-DoWhile, sized-Scope, sized-Revert, sized-Emit)

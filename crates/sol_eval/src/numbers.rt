@@ -2,7 +2,7 @@
 
 ghost use Rattle.std.specs.Prelude.{◌≡◌, IsTrue};
 ghost use Rattle.chc_nums.specs.Types.{judged};
-ghost use Rattle.chc_nums.specs.Wrapping.{wrapped};
+ghost use Rattle.sol_core.specs.Wrapping.{wrapped};
 ghost use Rattle.sol_meaning.specs.Frames.{number_at};
 ghost use Rattle.sol_meaning.specs.Eval.{compared, truth, is_zero};
 ghost use Rattle.sol_eval.specs.Sized.{type_sized};
@@ -25,7 +25,7 @@ pub fn wrapped(ty: Ty, z: i128) -> i128
     requires { IsTrue (type_sized ty) }
     ensures { result ≡ wrapped ty z }
 {
-    chc_nums::wrapped(ty, z)
+    sol_core::wrapped(ty, z)
 }
 
 pub fn compared(cmp: Cmp, x: i128, y: i128) -> bool

@@ -31,7 +31,7 @@ pub fn exec_all(ss: &[Stmt], r: &Running, w: &mut World) -> Result<Got<End>, NoM
     Ok(Got::Value(End::Normal))
 }
 
-#[tactic(auto, using(sol_meaning::proofs::Statements::statements, crate::proofs::Sizes::forms, crate::proofs::Sizes::unsized))]
+#[tactic(auto, using(sol_meaning::proofs::Statements::statements, crate::proofs::Sizes::forms, crate::proofs::Sizes::excluded))]
 fn exec(s: &Stmt, r: &Running, w: &mut World) -> Result<Got<End>, NoMemory>
     requires { IsTrue (stmt_sized s.now) }
     ensures ran { Ran (exec (frame_in r.now) s.now w.old) result w.new }

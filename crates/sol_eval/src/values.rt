@@ -2,7 +2,7 @@
 
 ghost use Rattle.std.specs.Prelude.{◌≡◌, IsTrue, true};
 ghost use lib.IntN.{ℤ};
-ghost use Rattle.chc_nums.specs.Wrapping.{wrapped};
+ghost use Rattle.sol_core.specs.Wrapping.{wrapped};
 ghost use Rattle.sol_meaning.specs.declared.world.End.{End};
 ghost use Rattle.sol_meaning.specs.declared.world.Got.TheVariants as got;
 ghost use Rattle.sol_meaning.specs.Frames.{and_then, panic};
@@ -62,7 +62,7 @@ fn cast(ty: Ty, x: i128, w: &mut World) -> Result<Got<i128>, NoMemory>
 
 /// The value of an expression.
 #[cycle(eval)]
-#[tactic(auto, using(sol_meaning::proofs::Values::values, crate::proofs::Sizes::expressions, crate::proofs::Sizes::unsized))]
+#[tactic(auto, using(sol_meaning::proofs::Values::values, crate::proofs::Sizes::expressions, crate::proofs::Sizes::excluded))]
 pub fn eval(e: &Expr, r: &Running, w: &mut World) -> Result<Got<i128>, NoMemory>
     requires { IsTrue (expr_sized e.now) }
     ensures ran { Ran (eval (frame_in r.now) e.now w.old) result w.new }

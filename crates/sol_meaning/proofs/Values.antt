@@ -3,7 +3,7 @@ use Rattle.std.proofs.Common.{◌≡◌, ◌∙◌, sym, ap, ℕ, Bool, List, ma
 use lib.IntN.{ℤ}
 use Rattle.chc_nums.specs.declared.Ty.{Ty}
 use Rattle.chc_nums.specs.declared.Op.{Op}
-use Rattle.chc_nums.specs.Wrapping.{wrapped}
+use Rattle.sol_core.specs.Wrapping.{wrapped}
 use Rattle.sol_core.specs.declared.Cmp.{Cmp}
 use Rattle.sol_core.specs.declared.PanicSites.{PanicSites}
 use Rattle.sol_core.specs.declared.Expr.{Expr, Num, Local, Scalar, MapAt, ElemAt, Len, Sender, Arith, Compare, Not, Both, Either, Pick, Cast, Call}

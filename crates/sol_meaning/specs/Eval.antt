@@ -10,7 +10,7 @@ use Rattle.chc_nums.specs.declared.Op.TheVariants as op
 use Rattle.chc_nums.specs.declared.Num.{Num}
 use Rattle.chc_nums.specs.declared.Num.TheVariants as num
 use Rattle.chc_nums.specs.Types.{judged}
-use Rattle.chc_nums.specs.Wrapping.{wrapped, unchecked}
+use Rattle.sol_core.specs.Wrapping.{wrapped, unchecked}
 use Rattle.sol_core.specs.declared.Cmp.{Cmp}
 use Rattle.sol_core.specs.declared.Cmp.TheVariants as cmp
 use Rattle.sol_core.specs.declared.PanicSites.{PanicSites}

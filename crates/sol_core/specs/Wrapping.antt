@@ -2,12 +2,12 @@
 use Rattle.std.specs.Prelude.{ℕ, ◌-◌, ◌*◌, ◌^◌, ◌%◌, pos, ◌+ℤ◌, ◌-ℤ◌, ◌*ℤ◌, neg_ℤ, if◌then◌else◌, int_div, int_rem}
 use lib.IntN.{ℤ, negsuc}
 use Rattle.std.specs.Ordering.{int_eq}
-use Rattle.chc_nums.specs.declared.typed.Ty.{Ty}
-use Rattle.chc_nums.specs.declared.typed.Ty.TheVariants as ty
-use Rattle.chc_nums.specs.declared.typed.Op.{Op}
-use Rattle.chc_nums.specs.declared.typed.Op.TheVariants as op
-use Rattle.chc_nums.specs.declared.typed.Num.{Num}
-use Rattle.chc_nums.specs.declared.typed.Num.TheVariants as num
+use Rattle.chc_nums.specs.declared.Ty.{Ty}
+use Rattle.chc_nums.specs.declared.Ty.TheVariants as ty
+use Rattle.chc_nums.specs.declared.Op.{Op}
+use Rattle.chc_nums.specs.declared.Op.TheVariants as op
+use Rattle.chc_nums.specs.declared.Num.{Num}
+use Rattle.chc_nums.specs.declared.Num.TheVariants as num
 
 -- the number from 0 to m - 1 that differs from z by a multiple of m
 abbrev pub modulo : ℤ → ℕ → ℕ

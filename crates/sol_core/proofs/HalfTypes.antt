@@ -8,7 +8,7 @@ use Rattle.std.specs.Int.{w128}
 use lib.IntN.{ℤ, negsuc}
 use Rattle.std.proofs.lemmas.Int.{ints}
 use Rattle.chc_nums.specs.Wide.{in_128, fits_128}
-use Rattle.chc_nums.specs.Wrapping.{modulo}
+use Rattle.sol_core.specs.Wrapping.{modulo}
 
 twice : (b : ℕ) → 2 ^ (b + 1) ≡ 2 ^ b + 2 ^ b
 twice b = let e : 2 ^ (b + 1) ≡ 2 ^ b * 2 = pow-add 2 b 1 in omega arith

@@ -5,9 +5,9 @@ use lib.IntN.{ℤ}
 use Rattle.std.proofs.lemmas.Int.{to_z-of_z}
 use Rattle.chc_nums.specs.Wide.{in_128}
 use Rattle.chc_nums.proofs.Fits.{in_128-value}
-use Rattle.chc_nums.specs.Wrapping.{modulo}
-use Rattle.chc_nums.proofs.HalfTypes.{high}
-use Rattle.chc_nums.proofs.wrapping.raised.Goals as goal
+use Rattle.sol_core.specs.Wrapping.{modulo}
+use Rattle.sol_core.proofs.HalfTypes.{high}
+use Rattle.sol_core.proofs.wrapping.raised.Goals as goal
 
 pub returns-in-Some : goal.returns-in-Some
 returns-in-Some c =

@@ -2,10 +2,9 @@
 
 ghost use Rattle.std.specs.Prelude.{◌≡◌, ◌+◌, ◌<◌, ◌^◌, ◌+ℤ◌, ◌-ℤ◌, pos, ◌≤ℤ◌};
 ghost use Rattle.chc_nums.specs.Types.{IsType};
-ghost use Rattle.chc_nums.specs.Wrapping.{modulo, wrapped};
+ghost use Rattle.sol_core.specs.Wrapping.{modulo, wrapped};
 
-use crate::typed::{Ty, power};
-use crate::wide::sum;
+use chc_nums::{Ty, power, sum};
 
 /// The number of a type that differs from a number by a multiple of the number of the type's values, as Solidity's
 /// conversions give it.

@@ -3,9 +3,9 @@ use Rattle.std.specs.Prelude.{FitsSigned}
 use Rattle.std.specs.Int.{w128}
 use lib.IntN.{ℤ}
 use Rattle.std.proofs.lemmas.Int.{to_z-of_z}
-use Rattle.chc_nums.specs.Wrapping.{modulo}
-use Rattle.chc_nums.proofs.HalfTypes.{modulo-half}
-use Rattle.chc_nums.proofs.wrapping.lowered.Goals as goal
+use Rattle.sol_core.specs.Wrapping.{modulo}
+use Rattle.sol_core.proofs.HalfTypes.{modulo-half}
+use Rattle.sol_core.proofs.wrapping.lowered.Goals as goal
 
 pub returns : goal.returns
 returns c =
