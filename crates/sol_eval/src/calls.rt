@@ -56,18 +56,34 @@ pub fn call(
         return Ok(Got::Cut);
     }
     match r.program.funs.get(f as usize) {
-        Some(fun) => {
-            let below = Running {
-                program: r.program,
-                level: r.level - 1,
-                sender: r.sender,
-                is_static: r.is_static,
-                replies: r.replies,
-            };
-            enter(alloc, fun, &below, args, w)
-        }
+        Some(fun) => call_fun(alloc, fun, r, args, w),
         None => Ok(Got::Reverted),
     }
+}
+
+// The body runs one level down.
+#[tactic(auto, using(crate::proofs::Levels::levels))]
+fn call_fun(
+    alloc: Global,
+    fun: &Fun,
+    r: &Running,
+    args: &[i128],
+    w: &mut World,
+) -> Result<Got<i128>, NoMemory>
+    requires sized { IsTrue (fun_sized fun.now) }
+    requires level { 0 < r.now.level }
+    ensures ran { Ran (calls_at r.now.program.now r.now.level (caller_in r.now) (Some fun.now) args.now w.old) result w.new }
+    ensures kept { Kept w.old.state w.new.state }
+    ensures locals { OnOk result (w.new.locals ≡ w.old.locals) }
+{
+    let below = Running {
+        program: r.program,
+        level: r.level - 1,
+        sender: r.sender,
+        is_static: r.is_static,
+        replies: r.replies,
+    };
+    enter(alloc, fun, &below, args, w)
 }
 
 fn enter(

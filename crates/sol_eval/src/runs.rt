@@ -1,13 +1,13 @@
 // Runs of scripts.
 
 ghost use Rattle.std.specs.List.{list_all};
-ghost use Rattle.std.specs.Prelude.{IsTrue, IfOk, None, false};
-ghost use Rattle.sol_meaning.specs.Exec.{call_each, call_once, settled};
+ghost use Rattle.std.specs.Prelude.{IsTrue, IfOk, None, false, map};
+ghost use Rattle.sol_meaning.specs.Exec.{all_of, call_each, call_once, settled};
 ghost use Rattle.sol_meaning.specs.Calling.{level_at};
-ghost use Rattle.sol_meaning.specs.Run.{run, ran};
+ghost use Rattle.sol_meaning.specs.Run.{run, ran, built, deployer};
 ghost use Rattle.sol_eval.specs.Ran.{Ran};
 ghost use Rattle.sol_eval.specs.Runs.{IsRun};
-ghost use Rattle.sol_eval.specs.Sized.{fun_sized, is_sized};
+ghost use Rattle.sol_eval.specs.Sized.{fun_sized, build_sized, is_sized};
 
 use crate::calls::call_door;
 use crate::deployment::{build_all, fresh};
@@ -15,8 +15,8 @@ use crate::frames::Running;
 use crate::hits::ascending;
 use crate::outcome::Run;
 use chc_nums::{List, NoMemory};
-use sol_core::{Call, Program, Script};
-use sol_meaning::{Got, World};
+use sol_core::{Call, Program, Reply, Script};
+use sol_meaning::{End, Got, World};
 use std::alloc::Global;
 
 /// A script's run with a number of turns.
@@ -26,18 +26,33 @@ pub fn run(alloc: Global, p: &Program, s: &Script, turns: u32) -> Result<Run, No
     ensures { IfOk result (λ r. IsRun (run p.now s.now turns) r) }
 {
     let mut w = fresh(alloc, p, turns)?;
+    match deploy(alloc, p, s, turns, &mut w)? {
+        Got::Value(_) => run_calls(alloc, p, turns, s.calls.as_slice(), w),
+        Got::Reverted => undeployed(w, false),
+        Got::Cut => undeployed(w, true),
+    }
+}
+
+fn deploy(
+    alloc: Global,
+    p: &Program,
+    s: &Script,
+    turns: u32,
+    w: &mut World,
+) -> Result<Got<End>, NoMemory>
+    requires bodies { IsTrue (list_all fun_sized p.now.funs) }
+    requires initialisers { IsTrue (list_all build_sized p.now.builds) }
+    ensures { Ran (all_of (map (built (deployer p.now s.now.sender turns) s.now.args) p.now.builds) w.old) result w.new }
+{
+    let none: List<Reply> = List::new(alloc);
     let r = Running {
         program: p,
         level: turns,
         sender: s.sender,
         is_static: false,
-        replies: &[],
+        replies: none.as_slice(),
     };
-    match build_all(alloc, &r, s.args.as_slice(), p.builds.as_slice(), &mut w)? {
-        Got::Value(_) => run_calls(alloc, p, turns, s.calls.as_slice(), w),
-        Got::Reverted => undeployed(w, false),
-        Got::Cut => undeployed(w, true),
-    }
+    build_all(alloc, &r, s.args.as_slice(), p.builds.as_slice(), w)
 }
 
 fn undeployed(w: World, cut: bool) -> Result<Run, NoMemory>
