@@ -17,6 +17,7 @@ use sol_core::{Expr, Place, Stmt};
 use sol_meaning::{End, Got, World};
 
 /// Statements one after another, until one leaves.
+#[tactic(auto, using(crate::proofs::Firsts::all_more))]
 pub fn exec_all(ss: &[Stmt], r: &Running, w: &mut World) -> Result<Got<End>, NoMemory>
     requires { IsTrue (list_all stmt_sized ss.now) }
     ensures ran { Ran (exec_all (frame_in r.now) ss.now w.old) result w.new }
@@ -24,8 +25,12 @@ pub fn exec_all(ss: &[Stmt], r: &Running, w: &mut World) -> Result<Got<End>, NoM
 {
     for s in ss {
         match exec(s, r, w)? {
-            Got::Value(End::Normal) => {}
-            other => return Ok(other),
+            Got::Value(end) => match end {
+                End::Normal => {}
+                End::Broke | End::Continued | End::Left => return Ok(Got::Value(end)),
+            },
+            Got::Reverted => return Ok(Got::Reverted),
+            Got::Cut => return Ok(Got::Cut),
         }
     }
     Ok(Got::Value(End::Normal))
