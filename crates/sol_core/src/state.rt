@@ -18,8 +18,11 @@ impl Model for MapVal {
     ghost use Rattle.std.specs.Prelude.{List};
     ghost use lib.IntN.{ℤ};
     ghost use Rattle.std.specs.Coded.{coded_list, coded_ℤ, coded×};
+
     ghost Value = { List ((ℤ × ℤ) × ℤ) };
+
     ghost coded = { coded_list (coded× (coded× coded_ℤ coded_ℤ) coded_ℤ) };
+
     ghost view = { λ map. map.held.entries };
 }
 

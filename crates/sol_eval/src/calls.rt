@@ -34,7 +34,11 @@ pub fn call_door(
 {
     match r.program.doors.get(d as usize) {
         Some(f) => call(alloc, r, *f, args, w),
-        None => Ok(if r.level == 0 { Got::Cut } else { Got::Reverted }),
+        None => Ok(if r.level == 0 {
+            Got::Cut
+        } else {
+            Got::Reverted
+        }),
     }
 }
 
