@@ -123,10 +123,10 @@ fn script_is_told_line_by_line(rt: HostRuntime) -> Result<(), Fail> {
 // What a text that tells a script is read as, printed again.
 fn is_read(alloc: Global, text: &str) -> Result<bool, ScriptTextFault> {
     let bytes = text.as_bytes();
-    if bytes.len() > 10_000 {
+    let program = program(alloc)?;
+    if bytes.len() > 10_000 || program.doors.len() != 1 {
         return Ok(false);
     }
-    let program = program(alloc)?;
     let script = read(alloc, bytes, &program)?;
     let again = print(alloc, &program, &script)?;
     Ok(again.as_slice() == bytes)
