@@ -10,7 +10,7 @@ use Rattle.sol_core.specs.declared.program.Fun.{Fun}
 use Rattle.sol_core.specs.declared.program.Program.{Program}
 use Rattle.sol_core.specs.Values.{is_size, is_type}
 use Rattle.sol_core.specs.Doors.{fun_at, door, params_of}
-use Rattle.sol_core.specs.Formed.{formed, is_fun, are_variables, are_functions, are_doors, are_ordered, is_map, is_out_fun, is_build}
+use Rattle.sol_core.specs.Formed.{formed, is_fun, are_variables, are_functions, are_doors, are_ordered, are_params, is_map, is_out_fun, is_build}
 
 pub type_size : (t : Ty) → is_type t ≡ true → IsType t
 type_size ty.Bool h = tt
@@ -38,17 +38,31 @@ functions p h = (and_parts (list_all (is_fun p) p.funs) _ (and_parts (are_variab
 pub locals_typed : (p : Program) (f : Fun) → is_fun p f ≡ true → list_all is_type f.locals ≡ true
 locals_typed p f h = (and_parts (list_all is_type f.locals) _ h).0
 
-fun-typed : (p : Program) (at : Option ℕ) (f : Fun) → formed p ≡ true → fun_at p at ≡ Some f → list_all is_type (params_of f) ≡ true
+fun-typed : (p : Program) (at : Option ℕ) (f : Fun) → are_params p ≡ true → fun_at p at ≡ Some f → list_all is_type (params_of f) ≡ true
 fun-typed p None f h e = absurd (cc)
-fun-typed p (Some i) f h e = front-holds is_type f.params f.locals (locals_typed p f (entry-holds (is_fun p) p.funs i f (functions p h) e))
+fun-typed p (Some i) f h e = entry-holds (λ g. list_all is_type (params_of g)) p.funs i f (and_parts (list_all is_type p.params) _ h).1 e
 
 -- the parameters of a function behind a door
-pub params_typed : (p : Program) (d : ℕ) (f : Fun) → formed p ≡ true → door p d ≡ Some f → list_all is_type (params_of f) ≡ true
+pub params_typed : (p : Program) (d : ℕ) (f : Fun) → are_params p ≡ true → door p d ≡ Some f → list_all is_type (params_of f) ≡ true
 params_typed p d f h e = fun-typed p (slice_get p.doors d) f h e
 
 -- the parameters of the deployment
-pub deployment_typed : (p : Program) → formed p ≡ true → list_all is_type p.params ≡ true
-deployment_typed p h = (and_parts (list_all is_type p.arrays) (list_all is_type p.params) (and_parts (list_all is_map p.maps) _ (and_parts (list_all is_type p.scalars) _ (variables p h)).1).1).1
+pub deployment_typed : (p : Program) → are_params p ≡ true → list_all is_type p.params ≡ true
+deployment_typed p h = (and_parts (list_all is_type p.params) _ h).0
+
+-- ---- the parameters of a formed program
+
+deployed-formed : (p : Program) → formed p ≡ true → list_all is_type p.params ≡ true
+deployed-formed p h = (and_parts (list_all is_type p.arrays) (list_all is_type p.params) (and_parts (list_all is_map p.maps) _ (and_parts (list_all is_type p.scalars) _ (variables p h)).1).1).1
+
+params-formed : (p : Program) (fs : List Fun) → list_all (is_fun p) fs ≡ true → list_all (λ f. list_all is_type (params_of f)) fs ≡ true
+params-formed p [] h = refl
+params-formed p (f ∷ fs) h =
+    let q = and_parts (is_fun p f) (list_all (is_fun p) fs) h in
+    and_from (list_all is_type (params_of f)) _ (front-holds is_type f.params f.locals (locals_typed p f q.0)) (params-formed p fs q.1)
+
+pub formed_params : (p : Program) → formed p ≡ true → are_params p ≡ true
+formed_params p h = and_from (list_all is_type p.params) _ (deployed-formed p h) (params-formed p p.funs (functions p h))
 
 pub types_front : (t : Ty) (ts : List Ty) → list_all is_type (t ∷ ts) ≡ true → is_type t ≡ true
 types_front t ts h = (and_parts (is_type t) (list_all is_type ts) h).0

@@ -30,6 +30,10 @@ is_type_if (Some t) = is_type t
 abbrev pub is_out_fun : OutFun → Bool
 is_out_fun f = list_all is_type f.params && is_type_if f.ret
 
+-- every parameter of the deployment and of a function has a type of a size that Solidity has
+abbrev pub are_params : Program → Bool
+are_params p = list_all is_type p.params && list_all (λ f. list_all is_type (params_of f)) p.funs
+
 abbrev pub is_fun : Program → Fun → Bool
 is_fun p f = list_all is_type f.locals && (nat_le f.params (length f.locals) && (is_place_if f.locals f.ret && are_stmts p f.locals f.view f.body false))
 

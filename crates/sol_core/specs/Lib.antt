@@ -1,6 +1,7 @@
 pub mod Values
 pub mod Mappings
 pub mod Wrapping
+pub mod Kinds
 pub mod Doors
 pub mod Fits
 pub mod ScriptFaults

@@ -6,6 +6,7 @@
 mod copies;
 mod doors;
 mod forming;
+mod kinds;
 mod options;
 mod program;
 mod script;
@@ -18,11 +19,12 @@ mod wrapping;
 
 pub use doors::{door, params_of};
 pub use forming::formed;
+pub use kinds::kind_word;
 pub use options::{Kinds, Options};
 pub use program::{
     Build, BuildArg, Cmp, Expr, Fun, Kind, MapTy, OutFun, PanicSites, Place, Program, Site, Stmt,
 };
 pub use script::{Answer, Call, Reply, Script};
-pub use script_faults::{ScriptFault, check_script, fitting_law};
+pub use script_faults::{ScriptFault, check_script, fitting_law, params_law};
 pub use state::{MapVal, State};
 pub use wrapping::wrapped;

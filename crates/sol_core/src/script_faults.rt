@@ -9,7 +9,7 @@ ghost use Rattle.sol_core.specs.declared.program.Program.{Program as AnyProgram}
 ghost use Rattle.sol_core.specs.Values.{is_type};
 ghost use Rattle.sol_core.specs.Doors.{door, params_of};
 ghost use Rattle.sol_core.specs.Fits.{Fits};
-ghost use Rattle.sol_core.specs.Formed.{formed};
+ghost use Rattle.sol_core.specs.Formed.{formed, are_params};
 ghost use Rattle.sol_core.specs.ScriptFaults.{visits, visits_of, call_visits, reply_visits, replies_visits, fault_with, fault_for, first_fault, IsFirst};
 
 use crate::doors::{door, params_of};
@@ -51,7 +51,7 @@ fn check_with(types: &[Ty], sender: i128, args: &[i128], at: u32) -> Result<(), 
 // A call alone, without those in its replies.
 #[tactic(auto, using(crate::proofs::Typed::params_typed))]
 fn check_own(p: &Program, call: &Call, at: u32) -> Result<(), ScriptFault>
-    requires { IsTrue (formed p.now) }
+    requires { IsTrue (are_params p.now) }
     ensures { IsFirst (fault_for at (option_map params_of (door p.now (out-Call call.now).fun)) (out-Call call.now).sender (out-Call call.now).args) result }
 {
     match door(p, call.fun) {
@@ -63,7 +63,7 @@ fn check_own(p: &Program, call: &Call, at: u32) -> Result<(), ScriptFault>
 #[cycle(check_call)]
 #[tactic(auto, using(crate::proofs::Visiting::visiting))]
 fn check_call(call: &Call, p: &Program, at: &mut u32) -> Result<(), ScriptFault>
-    requires formed { IsTrue (formed p.now) }
+    requires params { IsTrue (are_params p.now) }
     requires few { at.old + length (call_visits p.now call.now) < 2 ^ 32 }
     ensures first { IsFirst (first_fault at.old (call_visits p.now call.now)) result }
     ensures count { IfOk result (λ u. at.new ≡ at.old + length (call_visits p.now call.now)) }
@@ -76,7 +76,7 @@ fn check_call(call: &Call, p: &Program, at: &mut u32) -> Result<(), ScriptFault>
 #[cycle(check_call)]
 #[tactic(auto, using(crate::proofs::Visiting::visiting))]
 fn check_replies(replies: &[Reply], p: &Program, at: &mut u32) -> Result<(), ScriptFault>
-    requires formed { IsTrue (formed p.now) }
+    requires params { IsTrue (are_params p.now) }
     requires few { at.old + length (replies_visits p.now replies.now) < 2 ^ 32 }
     ensures first { IsFirst (first_fault at.old (replies_visits p.now replies.now)) result }
     ensures count { IfOk result (λ u. at.new ≡ at.old + length (replies_visits p.now replies.now)) }
@@ -90,7 +90,7 @@ fn check_replies(replies: &[Reply], p: &Program, at: &mut u32) -> Result<(), Scr
 #[cycle(check_call)]
 #[tactic(auto, using(crate::proofs::Visiting::visiting))]
 fn check_reply(reply: &Reply, p: &Program, at: &mut u32) -> Result<(), ScriptFault>
-    requires formed { IsTrue (formed p.now) }
+    requires params { IsTrue (are_params p.now) }
     requires few { at.old + length (reply_visits p.now reply.now) < 2 ^ 32 }
     ensures first { IsFirst (first_fault at.old (reply_visits p.now reply.now)) result }
     ensures count { IfOk result (λ u. at.new ≡ at.old + length (reply_visits p.now reply.now)) }
@@ -101,7 +101,7 @@ fn check_reply(reply: &Reply, p: &Program, at: &mut u32) -> Result<(), ScriptFau
 #[cycle(check_call)]
 #[tactic(auto, using(crate::proofs::Visiting::visiting))]
 fn check_calls(calls: &[Call], p: &Program, at: &mut u32) -> Result<(), ScriptFault>
-    requires formed { IsTrue (formed p.now) }
+    requires params { IsTrue (are_params p.now) }
     requires few { at.old + length (visits_of p.now calls.now) < 2 ^ 32 }
     ensures first { IsFirst (first_fault at.old (visits_of p.now calls.now)) result }
     ensures count { IfOk result (λ u. at.new ≡ at.old + length (visits_of p.now calls.now)) }
@@ -113,10 +113,11 @@ fn check_calls(calls: &[Call], p: &Program, at: &mut u32) -> Result<(), ScriptFa
 }
 
 /// Whether a script of fewer than 2^32 - 1 calls fits a program, or the first of its visits that doesn't: the deployment,
-/// and then the calls in preorder. Within one visit the faults are told in the order in which they are listed.
+/// and then the calls in preorder. Within one visit the faults are told in the order in which they are listed. The program's
+/// parameters have types of sizes that Solidity has, as those of every formed program do.
 #[tactic(auto, using(crate::proofs::Visiting::visiting, crate::proofs::Typed::deployment_typed))]
 pub fn check_script(p: &Program, s: &Script) -> Result<(), ScriptFault>
-    requires formed { IsTrue (formed p.now) }
+    requires params { IsTrue (are_params p.now) }
     requires few { length (visits p.now s.now) < 2 ^ 32 }
     ensures { IsFirst (first_fault 0 (visits p.now s.now)) result }
 {
@@ -129,4 +130,10 @@ pub fn check_script(p: &Program, s: &Script) -> Result<(), ScriptFault>
 #[tactic(auto, using(crate::proofs::Fitting::fits_where))]
 pub fn fitting_law()
     ensures { (p : AnyProgram) (s : AnyScript) → Fits p s ↔ (first_fault 0 (visits p s) ≡ None) }
+{}
+
+/// The parameters of a formed program have types of sizes that Solidity has.
+#[tactic(auto, using(crate::proofs::Typed::formed_params))]
+pub fn params_law()
+    ensures { (p : AnyProgram) → IsTrue (formed p) → IsTrue (are_params p) }
 {}

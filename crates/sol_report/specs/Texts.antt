@@ -3,8 +3,7 @@ use Rattle.std.specs.Prelude.{ℕ, suc, List, [], ◌∷◌, ◌++◌, Option, S
 use Rattle.std.specs.List.{concat}
 use Rattle.chc_ask.specs.declared.Why.{Why}
 use Rattle.chc_ask.specs.declared.Why.TheVariants as why
-use Rattle.sol_core.specs.declared.Kind.{Kind}
-use Rattle.sol_core.specs.declared.Kind.TheVariants as kind
+use Rattle.sol_core.specs.Kinds.{kind_word}
 use Rattle.sol_core.specs.declared.Site.{Site}
 use Rattle.sol_core.specs.declared.Program.{Program}
 use Rattle.sol_script.specs.ScriptText.{script_lines}
@@ -13,14 +12,6 @@ use Rattle.sol_report.specs.declared.report.Stop.TheVariants as stop
 use Rattle.sol_report.specs.declared.report.Verdict.{Verdict}
 use Rattle.sol_report.specs.declared.report.Verdict.TheVariants as verdict
 use Rattle.sol_report.specs.declared.report.Report.{Report}
-
-abbrev pub kind_word : Kind → List ℕ
-kind_word kind.Assert = codes "assert"
-kind_word kind.Underflow = codes "underflow"
-kind_word kind.Overflow = codes "overflow"
-kind_word kind.DivByZero = codes "divByZero"
-kind_word kind.OutOfBounds = codes "outOfBounds"
-kind_word kind.PopEmptyArray = codes "popEmptyArray"
 
 abbrev pub why_word : Why → List ℕ
 why_word (why.Point x d) = codes "point"

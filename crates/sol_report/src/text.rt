@@ -1,27 +1,14 @@
 // The report's text, line by line.
 
 ghost use Rattle.std.specs.Prelude.{◌≡◌, ◌∷◌, ◌++◌, [], ◌+◌, IfOk, OnOk, string_bytes, slice_get, codes, map};
-ghost use Rattle.sol_report.specs.Texts.{kind_word, why_word, stop_word, verdict_words, site_line, line_at, indented, violation_lines, target_lines, safe_count, unsafe_count, unknown_count, count_words, last_line, lines_of};
+ghost use Rattle.sol_report.specs.Texts.{why_word, stop_word, verdict_words, site_line, line_at, indented, violation_lines, target_lines, safe_count, unsafe_count, unknown_count, count_words, last_line, lines_of};
 
 use crate::report::{Report, Stop, Verdict};
 use chc_ask::{Open, Why};
 use chc_nums::{List, Name, NoMemory};
 use itoa::Buffer;
-use sol_core::{Kind, Program, Site};
+use sol_core::{Program, Site, kind_word};
 use std::alloc::Global;
-
-fn kind_word(kind: Kind) -> &'static str
-    ensures { result.now ≡ kind_word kind }
-{
-    match kind {
-        Kind::Assert => "assert",
-        Kind::Underflow => "underflow",
-        Kind::Overflow => "overflow",
-        Kind::DivByZero => "divByZero",
-        Kind::OutOfBounds => "outOfBounds",
-        Kind::PopEmptyArray => "popEmptyArray",
-    }
-}
 
 fn why_word(why: &Why) -> &'static str
     ensures { result.now ≡ why_word why.now }

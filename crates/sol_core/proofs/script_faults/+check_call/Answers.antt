@@ -21,10 +21,10 @@ pub check_calls-check_call-requires : goal.check_calls-check_call-requires
 check_calls-check_call-requires t c =
     let within : c.loop-call.call-index < length c.args.calls.now = search rules in
     let fewer : length (call_visits c.args.p.now c.call-item.result) ≤ length (visits_of c.args.p.now c.args.calls.now) = fewer-in-entry (call_visits c.args.p.now) c.args.calls.now c.loop-call.call-index c.call-item.result within c.call-item.is in
-    (search rules, (c.requires.formed, few-entry (call_visits c.args.p.now) c.args.calls.now c.loop-call.call-index c.call-item.result c.loop-call.at _ c.loop-call.invariant.1 c.requires.few within c.call-item.is))
+    (search rules, (c.requires.params, few-entry (call_visits c.args.p.now) c.args.calls.now c.loop-call.call-index c.call-item.result c.loop-call.at _ c.loop-call.invariant.1 c.requires.few within c.call-item.is))
 
 pub check_replies-check_reply-requires : goal.check_replies-check_reply-requires
 check_replies-check_reply-requires t c =
     let within : c.loop-reply.reply-index < length c.args.replies.now = search rules in
     let fewer : length (reply_visits c.args.p.now c.reply-item.result) ≤ length (replies_visits c.args.p.now c.args.replies.now) = fewer-in-entry (reply_visits c.args.p.now) c.args.replies.now c.loop-reply.reply-index c.reply-item.result within c.reply-item.is in
-    (search rules, (c.requires.formed, few-entry (reply_visits c.args.p.now) c.args.replies.now c.loop-reply.reply-index c.reply-item.result c.loop-reply.at _ c.loop-reply.invariant.1 c.requires.few within c.reply-item.is))
+    (search rules, (c.requires.params, few-entry (reply_visits c.args.p.now) c.args.replies.now c.loop-reply.reply-index c.reply-item.result c.loop-reply.at _ c.loop-reply.invariant.1 c.requires.few within c.reply-item.is))
