@@ -60,6 +60,7 @@ module _ {X R : Type 0} where
           drawn = omega arith;
           fits = fits-set F vs other spent (tt, refl, tt) (λ j u _ e. fits j u e);
           single = single-set vs other spent single (λ j u t _ e tw tu. idle-no_ticket {X = X} Idle t refl tw);
+          short = r.short;
           begun = r.begun;
           ours = r.ours;
           home = still-out list root n s1 s.words other spent r.serving r.current r.opened (λ j u e served same. idle-not_served u.phase r.serving r.current (ap (λ (z : View X R). z.phase) (same-view vs j other u w e aw same)) served) home;

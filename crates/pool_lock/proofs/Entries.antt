@@ -22,6 +22,17 @@ starts-through {A = A} all middle front h k = subst (λ (xs : List A). StartsWit
 pub starts-length : {A : Type 0} (all front : List A) → StartsWith all front → length front ≤ length all
 starts-length all front h = let l : length all ≡ length (front ++ h.0) = ap length h.1 in omega (arith, l, length-append front h.0)
 
+-- a list is a beginning of it that is as long
+pub starts-whole : {A : Type 0} (all front : List A) → StartsWith all front → length all ≡ length front → all ≡ front
+starts-whole all front h e =
+    let l : length all ≡ length (front ++ h.0) = ap length h.1 in
+    let none : length h.0 ≡ 0 = omega (arith, l, e, length-append front h.0) in
+    h.1 ∙ ap (λ xs. front ++ xs) (length-none h.0 none) ∙ append-nil front
+  where
+    length-none : {A : Type 0} (xs : List A) → length xs ≡ 0 → xs ≡ []
+    length-none [] e = refl
+    length-none (x ∷ xs) e = absurd (omega arith)
+
 get-longer : {A : Type 0} (xs ys : List A) (i : ℕ) (a : A) → slice_get xs i ≡ Some a → slice_get (xs ++ ys) i ≡ Some a
 get-longer [] ys zero a e = absurd (cc)
 get-longer [] ys (suc i) a e = absurd (cc)

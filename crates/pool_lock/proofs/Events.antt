@@ -71,6 +71,7 @@ module _ {X R : Type 0} where
           fits = fits-set (Fits (s.homes ≡ none ∷ []) r.serving r.next r.current r.opened) s.views id w
               (mine.0, tt, ((mine.2.0.0, subst (λ (xs : List (ℕ × X)). StartsWith xs all) mine.0.2 (starts-same all), mine.2.0.2), tt)) (λ j u _ e. r.fits j u e);
           single = single-set s.views id w r.single (λ j u q other e tw tu. other (r.single j id u v q e at tu tw));
+          short = r.short;
           begun = r.begun;
           ours = r.ours;
           home = inr (id, w, set_here s.views id w there, ap (λ (q : ℕ). Served q all) mine.0.0 ∙ ap (Served r.serving) mine.0.2, mine.0.3);
@@ -86,9 +87,9 @@ module _ {X R : Type 0} where
     looks-at slots id t me p y e = subst (λ (m : Me (Option T) (View X R)). Allows (Kept list root n) slots id m 2 (λ x. (x + 0) % 2 ^ 64) (looked list (step slots 2 0 0 none) m)) (sym e) (looks slots id t p y)
 
     -- one item more is in the list
-    appended : (s : St) (r : Held list root n s) (id t : ℕ) (p : Known X R) (item : X) → get_elem? s.views id ≡ some (passing p (Served t r.current))
+    appended : (s : St) (r : Held list root n s) (id t : ℕ) (p : Known X R) (item : X) → length (r.current ++ (p.number, item) ∷ []) < 9223372036854775808 → get_elem? s.views id ≡ some (passing p (Served t r.current))
         → Held list root n (stepped s 2 ((get_or s.words 2 0 + 1) % 2 ^ 64) id [] (passing (known p.number p.opened p.seen (p.published ++ (length r.current, item) ∷ [])) (Served t (r.current ++ (p.number, item) ∷ []))) keeps)
-    appended s r id t p item at =
+    appended s r id t p item less-long at =
         let v : View X R = passing p (Served t r.current) in
         let one : List (ℕ × X) = (p.number, item) ∷ [] in
         let all : List (ℕ × X) = r.current ++ one in
@@ -123,17 +124,19 @@ module _ {X R : Type 0} where
               ((mine.0.0, mine.0.1, refl, mine.0.3), tt, ((mine.2.0.0, starts-more r.current p.seen one mine.2.0.1, ap (λ (l : List (ℕ × X)). l ++ (length r.current, item) ∷ []) mine.2.0.2 ∙ sym (behind-own r.opened.start r.current p.number item r.begun)), tt))
               (λ j u ne e. let f = r.fits j u e in (fits-other (s.homes ≡ none ∷ []) r.serving r.next r.current all u.phase (other j u ne e) f.0, f.1, knows-else r.opened r.current p.number item u.passes r.begun (else j u ne e) f.2));
           single = single-set s.views id w r.single (λ j u m ne e tw tu. ne (r.single j id u v m e at tu tw));
+          short = less-long;
           begun = starts-more r.current r.opened.start one r.begun;
           ours = below-more n p.number item r.opened.start r.current r.begun less r.ours;
           home = inr (id, w, set_here s.views id w there, ap (λ (m : ℕ). Served m all) mine.0.0, mine.0.3);
         }
 
-    publishes : (slots id t : ℕ) (p : Known X R) (c : List (ℕ × X)) (item : X) (y : T) → list y ≡ c ++ (p.number, item) ∷ [] → Allows (Kept list root n) slots id (passing p (Served t c), (0, Some y) ∷ []) 2 (λ x. (x + 1) % 2 ^ 64) (published list (step slots 2 1 0 none) (passing p (Served t c), (0, Some y) ∷ []))
-    publishes slots id t p c item y more s kept _ at _ =
+    publishes : (slots id t : ℕ) (p : Known X R) (c : List (ℕ × X)) (item : X) (y : T) → list y ≡ c ++ (p.number, item) ∷ [] → length (list y) < 9223372036854775808 → Allows (Kept list root n) slots id (passing p (Served t c), (0, Some y) ∷ []) 2 (λ x. (x + 1) % 2 ^ 64) (published list (step slots 2 1 0 none) (passing p (Served t c), (0, Some y) ∷ []))
+    publishes slots id t p c item y more short s kept _ at _ =
         let v : View X R = passing p (Served t c) in
         let r = settled list root n s id v kept at tt in
         let is : c ≡ r.current = (r.fits id v at).0.2 in
-        let h = appended s r id t p item (at ∙ ap (λ (xs : List (ℕ × X)). some (passing p (Served t xs))) is) in
+        let grown : list y ≡ r.current ++ (p.number, item) ∷ [] = more ∙ ap (λ (xs : List (ℕ × X)). xs ++ (p.number, item) ∷ []) is in
+        let h = appended s r id t p item (subst (λ (xs : List (ℕ × X)). length xs < 9223372036854775808) grown short) (at ∙ ap (λ (xs : List (ℕ × X)). some (passing p (Served t xs))) is) in
         let w : View X R = put (list y) v in
         let same : w ≡ passing (known p.number p.opened p.seen (p.published ++ (length r.current, item) ∷ [])) (Served t (r.current ++ (p.number, item) ∷ [])) =
         ap (λ (l : List (ℕ × X)). passing (known p.number p.opened p.seen (p.published ++ l)) (Served t (list y))) (one-more c (list y) p.number item more)
@@ -146,6 +149,6 @@ module _ {X R : Type 0} where
           (r.count_word ∙ ap (λ (xs : List (ℕ × X)). length xs % 2 ^ 64) (sym is), refl),
         )
 
-    pub publishes-at : (slots id t : ℕ) (me : Me (Option T) (View X R)) (p : Known X R) (c : List (ℕ × X)) (item : X) (y : T) → list y ≡ c ++ (p.number, item) ∷ [] → me ≡ (passing p (Served t c), (0, Some y) ∷ [])
+    pub publishes-at : (slots id t : ℕ) (me : Me (Option T) (View X R)) (p : Known X R) (c : List (ℕ × X)) (item : X) (y : T) → list y ≡ c ++ (p.number, item) ∷ [] → length (list y) < 9223372036854775808 → me ≡ (passing p (Served t c), (0, Some y) ∷ [])
         → Allows (Kept list root n) slots id me 2 (λ x. (x + 1) % 2 ^ 64) (published list (step slots 2 1 0 none) me)
-    publishes-at slots id t me p c item y more e = subst (λ (m : Me (Option T) (View X R)). Allows (Kept list root n) slots id m 2 (λ x. (x + 1) % 2 ^ 64) (published list (step slots 2 1 0 none) m)) (sym e) (publishes slots id t p c item y more)
+    publishes-at slots id t me p c item y more short e = subst (λ (m : Me (Option T) (View X R)). Allows (Kept list root n) slots id m 2 (λ x. (x + 1) % 2 ^ 64) (published list (step slots 2 1 0 none) m)) (sym e) (publishes slots id t p c item y more short)

@@ -4,6 +4,7 @@ pub mod Places
 pub mod Settled
 pub mod Turns
 pub mod Events
+pub mod Glances
 pub mod Opening
 pub mod Closing
 pub mod Sections

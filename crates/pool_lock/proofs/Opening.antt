@@ -128,6 +128,7 @@ module _ {X R : Type 0} where
           drawn = refl;
           fits = first-fits x;
           single = λ i j v w t ei ej ti tj. absurd (idle-no_ticket v.phase t (first-idle x i v ei) ti);
+          short = short;
           begun = starts-same (list x);
           ours = subst (AllBelow n) (sym (drop-length (list x))) tt;
           home = inl (x, refl, refl, refl);
@@ -199,6 +200,7 @@ module _ {X R : Type 0} where
               (at_snoc vs right w j ej))
               (λ (a : right ≡ u). absurd (idle-no_ticket u.phase t (ap (λ (z : View X R). z.phase) (sym a)) ti))
               (at_snoc vs right u i ei);
+          short = r.short;
           begun = r.begun;
           ours = r.ours;
           home =

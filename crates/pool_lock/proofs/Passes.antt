@@ -10,9 +10,9 @@ use Rattle.pool_lock.specs.declared.view.View.{View}
 use Rattle.pool_lock.specs.declared.pass.NumberedSeat.{NumberedSeat}
 use Rattle.pool_lock.specs.Entries.{StartsWith, AllBelow}
 use Rattle.pool_lock.specs.Weights.{weigh, AreBelow}
-use Rattle.pool_lock.specs.Views.{passing, view_of, fresh, fresh_from, number_of}
+use Rattle.pool_lock.specs.Views.{passing, view_of, fresh, fresh_from, number_of, opened_in, seen_in}
 use Rattle.pool_lock.specs.Told.{KnowsEach, Knows, first_of, rest_of, both_of}
-use Rattle.pool_lock.specs.Calls.{IsPassOf, numbers_of, ArePassesOf, AreFresh, StandsIn, AllStandIn, opened_in}
+use Rattle.pool_lock.specs.Calls.{IsPassOf, numbers_of, ArePassesOf, AreFresh, StandsIn, AllStandIn}
 use Rattle.pool_lock.specs.Gathered.{passes_in}
 use Rattle.pool_lock.proofs.Closing.{All}
 
@@ -92,6 +92,10 @@ module _ {X R T : Type 0} where
   spread-one id o ps qs p k h e count number own me =
       let place : k ≡ 0 + length ps = omega arith in
       subst (AreFresh id o 0) (sym e) (fresh-append id o 0 ps (p ∷ []) h (subst (λ (j : ℕ). AreFresh id o j (p ∷ [])) place ((number, own, me), tt)))
+
+  -- a fresh pass has seen nothing
+  pub seen-none : (o : Option (Opened X R)) (k : ℕ) (m : Me (Option T) (View X R)) → m ≡ (passing (fresh o k) Idle, []) → 0 ≡ length (seen_in m.0)
+  seen-none o k m e = sym (ap (λ (q : Me (Option T) (View X R)). length (seen_in q.0)) e)
 
   -- a seat gives the first of its fresh passes away
   pub split-first : (o : Option (Opened X R)) (k n : ℕ) (m m' : Me (Option T) (View X R)) → 1 ≤ n → m ≡ (view_of (fresh_from o k n) Idle, []) → m' ≡ (first_of m.0, []) → m' ≡ (passing (fresh o k) Idle, [])

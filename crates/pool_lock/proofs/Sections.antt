@@ -27,6 +27,20 @@ hand (e ∷ es) = e.1
 some-same : {T : Type 0} (x y : T) → Some x ≡ Some y → x ≡ y
 some-same x y e = cc
 
+module _ {X R : Type 0} where
+  -- what a look tells, of a list that the pass knows
+  pub looks-whole : (o : Opened X R) (all : List (ℕ × X)) (p : Known X R) → StartsWith all o.start → Knows o all p → Looked (passing p Idle) (passing (with_seen all p) Idle)
+  looks-whole o all p begun knows =
+      record {
+        number = refl;
+        opened = refl;
+        published = refl;
+        seen = knows.1;
+        begun = subst (λ (q : Option (Opened X R)). IsSomeAnd q (λ z. StartsWith all z.start)) (sym knows.0) begun;
+        behind = subst (λ (q : Option (Opened X R)). IsSomeAnd q (λ z. p.published ≡ items_behind z.start all p.number)) (sym knows.0) knows.2;
+        stand = subst (AllStand p.number all) (sym knows.2) (behind-stand o.start all p.number begun);
+      }
+
 module _ {X R T : Type 0} where
   -- a load that finds the ticket
   pub turn-is : (list : T → List (ℕ × X)) (root : T → R) (m l n : Me (Option T) (View X R)) (ticket found t : ℕ) (p : Known X R) → ticket ≡ t % 2 ^ 64 → m ≡ (passing p (Waiting t), []) → l ≡ m → waited list root (step 1 1 0 0 none) l found n → found ≡ ticket → IsTurn list root m n
@@ -91,17 +105,7 @@ module _ {X R T : Type 0} where
 
   pub looked-is : (m m' n : Me (Option T) (View X R)) (p : Known X R) (r : R) (all : List (ℕ × X)) → m ≡ (passing p Idle, []) → Entered r all p m' → n ≡ (passing (with_seen all p) Idle, []) → Looked m.0 n.0
   looked-is m m' n p r all is e at =
-      let o = e.opened in
-      let told : Looked (passing p Idle) (passing (with_seen all p) Idle) =
-      record {
-        number = refl;
-        opened = refl;
-        published = refl;
-        seen = e.knows.1;
-        begun = subst (λ (q : Option (Opened X R)). IsSomeAnd q (λ z. StartsWith all z.start)) (sym e.knows.0) e.begun;
-        behind = subst (λ (q : Option (Opened X R)). IsSomeAnd q (λ z. p.published ≡ items_behind z.start all p.number)) (sym e.knows.0) e.knows.2;
-        stand = subst (AllStand p.number all) (sym e.knows.2) (behind-stand o.start all p.number e.begun);
-      } in
+      let told : Looked (passing p Idle) (passing (with_seen all p) Idle) = looks-whole e.opened all p e.begun e.knows in
       subst (λ (k : Me (Option T) (View X R)). Looked k.0 n.0) (sym is) (subst (λ (k : Me (Option T) (View X R)). Looked (passing p Idle) k.0) (sym at) told)
 
   pub whole-copies : {C : Type 0} (copied : R → List (ℕ × X) → C → Type 0) (have : C) (m' n : Me (Option T) (View X R)) (p : Known X R) (r : R) (all : List (ℕ × X)) → Entered r all p m' → n ≡ (passing (with_seen all p) Idle, []) → copied r all have → HasCopies copied n.0 have

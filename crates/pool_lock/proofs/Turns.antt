@@ -57,6 +57,7 @@ module _ {X R : Type 0} where
             fits = fits-set (Fits (s.homes ≡ none ∷ []) r.serving (r.next + 1) r.current r.opened) s.views id w ((omega arith, omega arith), mine.1, mine.2)
                 (λ j u _ e. let f = r.fits j u e in (fits-later (s.homes ≡ none ∷ []) r.serving r.next r.current u.phase f.0, f.1, f.2));
             single = single-set s.views id w r.single (λ j u t _ e tw tu. let a : r.next ≡ t = cc in let b = range (s.homes ≡ none ∷ []) r.serving r.next r.current u.phase t (r.fits j u e).0 tu in omega arith);
+            short = r.short;
             begun = r.begun;
             ours = r.ours;
             home = still-out list root n s (set s.words 0 k) id w r.serving r.current r.opened (λ j u e q same. idle-not_served u.phase r.serving r.current (ap (λ (z : View X R). z.phase) (same-view s.views j id u v e at same)) q) r.home;
@@ -69,7 +70,7 @@ module _ {X R : Type 0} where
 
     -- ---- a load of the ticket that is served
 
-    unmoved : (s : St) (i id : ℕ) (me : Me (Option T) (View X R)) → get_elem? s.views id ≡ some me.0 → Held list root n s → Held list root n (stepped s i (get_or s.words i 0) id me.1 me.0 keeps)
+    pub unmoved : (s : St) (i id : ℕ) (me : Me (Option T) (View X R)) → get_elem? s.views id ≡ some me.0 → Held list root n s → Held list root n (stepped s i (get_or s.words i 0) id me.1 me.0 keeps)
     unmoved s i id me at r =
         subst (λ (ws : List ℕ). Held list root n (record { words = ws; homes = s.homes; views = set s.views id me.0 })) (sym (set-get_or s.words i 0))
         (subst (λ (vs : List (View X R)). Held list root n (record { words = s.words; homes = s.homes; views = vs })) (sym (set_again s.views id me.0 at)) r)
@@ -99,6 +100,7 @@ module _ {X R : Type 0} where
           fits = fits-set (Fits (gone ≡ none ∷ []) r.serving r.next r.current r.opened) s.views id w ((same, mine.0.1, is, refl), mine.1, mine.2)
               (λ j u _ e. let f = r.fits j u e in (fits-out (s.homes ≡ none ∷ []) (gone ≡ none ∷ []) r.serving r.next r.current u.phase (λ _. refl) f.0, f.1, f.2));
           single = single-set s.views id w r.single (λ j u q other e tw tu. other (r.single j id u v q e at tu tw));
+          short = r.short;
           begun = r.begun;
           ours = r.ours;
           home = inr (id, w, set_here s.views id w there, ap (λ (k : ℕ). Served k (list y)) same ∙ ap (Served r.serving) is, refl);
@@ -172,6 +174,7 @@ module _ {X R : Type 0} where
           fits = fits-set (Fits (back ≡ gone) (r.serving + 1) r.next r.current r.opened) s.views id w (tt, mine.1, mine.2)
               (λ j u ne e. let f = r.fits j u e in (fits-next (s.homes ≡ gone) (back ≡ gone) r.serving r.next r.current u.phase (other j u ne e) f.0, f.1, f.2));
           single = single-set s.views id w r.single (λ j u q ne e tw tu. absurd (idle-no_ticket w.phase q refl tw));
+          short = r.short;
           begun = r.begun;
           ours = r.ours;
           home = inl (y, refl, mine.0.2, its ∙ ap (λ (q : Opened X R). q.root) is);

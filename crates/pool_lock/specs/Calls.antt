@@ -1,5 +1,5 @@
 -- What the calls of the lock say of passes.
-use Rattle.std.specs.Prelude.{◌≡◌, ℕ, ◌+◌, List, [], ◌∷◌, ◌++◌, length, drop, Option, None, IfSome, IsSomeAnd}
+use Rattle.std.specs.Prelude.{◌≡◌, ℕ, ◌+◌, List, [], ◌∷◌, ◌++◌, length, drop, Option, IfSome, IsSomeAnd}
 use Rattle.atomic_table.specs.declared.shared.Seat.{Seat}
 use Rattle.atomic_table.specs.Seated.{TableId}
 use Rattle.pool_lock.specs.declared.view.Known.{Known}
@@ -8,41 +8,9 @@ use Rattle.pool_lock.specs.declared.view.Phase.TheVariants.{Idle}
 use Rattle.pool_lock.specs.declared.view.View.{View}
 use Rattle.pool_lock.specs.declared.pass.NumberedSeat.{NumberedSeat}
 use Rattle.pool_lock.specs.Entries.{StartsWith, AllStand, AllBelow, items_behind}
-use Rattle.pool_lock.specs.Views.{passing, fresh}
+use Rattle.pool_lock.specs.Views.{passing, fresh, number_in, opened_in, seen_in, published_in}
 
 module _ {X R : Type 0} where
-  abbrev pub first_number : List (Known X R) → ℕ
-  first_number [] = 0
-  first_number (p ∷ ps) = p.number
-
-  abbrev pub first_opened : List (Known X R) → Option (Opened X R)
-  first_opened [] = None
-  first_opened (p ∷ ps) = p.opened
-
-  abbrev pub first_seen : List (Known X R) → List (ℕ × X)
-  first_seen [] = []
-  first_seen (p ∷ ps) = p.seen
-
-  abbrev pub first_published : List (Known X R) → List (ℕ × X)
-  first_published [] = []
-  first_published (p ∷ ps) = p.published
-
-  -- the number of a pass
-  abbrev pub number_in : View X R → ℕ
-  number_in v = first_number v.passes
-
-  -- what the value was when the lock of a pass was opened
-  abbrev pub opened_in : View X R → Option (Opened X R)
-  opened_in v = first_opened v.passes
-
-  -- what a pass has seen
-  abbrev pub seen_in : View X R → List (ℕ × X)
-  seen_in v = first_seen v.passes
-
-  -- what a pass has published, each item with its place
-  abbrev pub published_in : View X R → List (ℕ × X)
-  published_in v = first_published v.passes
-
   -- the seat is that of a pass of this lock, with this number, between two calls
   abbrev pub IsPassOf : {T : Type 0} → TableId → ℕ → Seat (Option T) (View X R) → Type 0
   IsPassOf id k s = (s.table_id ≡ id) × (p : Known X R) × (p.number ≡ k) × (s.me ≡ (passing p Idle, []))

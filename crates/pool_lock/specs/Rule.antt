@@ -59,6 +59,7 @@ module _ {X R : Type 0} where
       pub fits : (i : ℕ) (v : View X R) → get_elem? s.views i ≡ some v → Fits (s.homes ≡ none ∷ []) serving next current opened v
       -- no two seats have one ticket
       pub single : (i j : ℕ) (v w : View X R) (t : ℕ) → get_elem? s.views i ≡ some v → get_elem? s.views j ≡ some w → ticket_of v.phase ≡ Some t → ticket_of w.phase ≡ Some t → i ≡ j
+      pub short : length current < 2 ^ 63
       pub begun : StartsWith current opened.start
       -- who appended an item behind the opening list is a pass
       pub ours : AllBelow n (drop (length opened.start) current)

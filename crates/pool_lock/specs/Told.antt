@@ -6,7 +6,7 @@ use Rattle.pool_lock.specs.declared.view.Opened.{Opened}
 use Rattle.pool_lock.specs.declared.view.Phase.TheVariants.{Filling, Idle, Waiting, Served}
 use Rattle.pool_lock.specs.declared.view.View.{View}
 use Rattle.pool_lock.specs.Entries.{StartsWith, items_of, items_behind}
-use Rattle.pool_lock.specs.Views.{opened_as, view_of, in_phase, with_opened, with_seen, with_more, taken_in, holding}
+use Rattle.pool_lock.specs.Views.{opened_as, view_of, in_phase, with_opened, with_seen, with_more, taken_in, holding, seen_in}
 
 abbrev Sat : Type 0 → Type 0 → Type 0 → Type 0
 Sat T X R = Me (Option T) (View X R)
@@ -60,6 +60,10 @@ module _ {X R : Type 0} where
   abbrev pub waited : {T : Type 0} → (T → List (ℕ × X)) → (T → R) → Step (Option T) → Sat T X R → ℕ → Sat T X R → Type 0
   waited {T} list root st m r m' = (t : ℕ) → m.0.phase ≡ Waiting t
       → (r ≡ t % 2 ^ 64 → (x : T) × Meets (root x) (list x) m.0 × (m' ≡ (in_phase (Served t (list x)) m.0, (0, Some x) ∷ m.1))) × (r ≢ t % 2 ^ 64 → m' ≡ m)
+
+  -- nothing changed; where so many items were counted as the pass has seen, that is the list, and the pass knows it
+  abbrev pub glanced : {T : Type 0} → Step (Option T) → Sat T X R → ℕ → Sat T X R → Type 0
+  glanced st m r m' = (m' ≡ m) × (r ≡ length (seen_in m.0) → (o : Opened X R) × StartsWith (seen_in m.0) o.start × KnowsEach o (seen_in m.0) m.0.passes)
 
   -- each pass has seen the list
   abbrev pub saw : List (ℕ × X) → View X R → View X R

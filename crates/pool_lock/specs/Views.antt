@@ -90,6 +90,38 @@ module _ {X R : Type 0} where
   abbrev pub held : View X R → ℕ
   held v = one_if (ticket_of v.phase)
 
+  abbrev pub first_number : List (Known X R) → ℕ
+  first_number [] = 0
+  first_number (p ∷ ps) = p.number
+
+  abbrev pub first_opened : List (Known X R) → Option (Opened X R)
+  first_opened [] = None
+  first_opened (p ∷ ps) = p.opened
+
+  abbrev pub first_seen : List (Known X R) → List (ℕ × X)
+  first_seen [] = []
+  first_seen (p ∷ ps) = p.seen
+
+  abbrev pub first_published : List (Known X R) → List (ℕ × X)
+  first_published [] = []
+  first_published (p ∷ ps) = p.published
+
+  -- the number of a pass
+  abbrev pub number_in : View X R → ℕ
+  number_in v = first_number v.passes
+
+  -- what the value was when the lock of a pass was opened
+  abbrev pub opened_in : View X R → Option (Opened X R)
+  opened_in v = first_opened v.passes
+
+  -- what a pass has seen
+  abbrev pub seen_in : View X R → List (ℕ × X)
+  seen_in v = first_seen v.passes
+
+  -- what a pass has published, each item with its place
+  abbrev pub published_in : View X R → List (ℕ × X)
+  published_in v = first_published v.passes
+
   -- the seat stands for one pass, has no ticket and holds nothing
   abbrev pub IsIdle : {T : Type 0} → Me (Option T) (View X R) → Type 0
   IsIdle m = (p : Known X R) × (m ≡ (passing p Idle, []))

@@ -4,9 +4,9 @@ ghost use Rattle.std.specs.Prelude.{◌≡◌, ◌++◌, ◌∷◌, ◌≤◌, �
 ghost use Rattle.pool_lock.specs.declared.view.Known.{Known};
 ghost use Rattle.pool_lock.specs.declared.view.Phase.TheVariants.{Empty, Idle};
 ghost use Rattle.pool_lock.specs.Weights.{AreBelow};
-ghost use Rattle.pool_lock.specs.Views.{view_of, opened_as, beginner, fresh_from};
+ghost use Rattle.pool_lock.specs.Views.{view_of, opened_as, beginner, fresh_from, opened_in};
 ghost use Rattle.pool_lock.specs.Told.{first_of, rest_of, both_of};
-ghost use Rattle.pool_lock.specs.Calls.{numbers_of, ArePassesOf, AreFresh, AllStandIn, opened_in};
+ghost use Rattle.pool_lock.specs.Calls.{numbers_of, ArePassesOf, AreFresh, AllStandIn};
 ghost use Rattle.pool_lock.specs.Gathered.{passes_in};
 
 use crate::growing::Growing;
@@ -80,11 +80,13 @@ impl<T: Growing> PoolLock<T> {
             let seat = self.split(&mut first);
             all.push_reserved(NumberedSeat {
                 number: number - 1,
+                seen: 0,
                 seat,
             });
         }
         all.push_reserved(NumberedSeat {
             number: count - 1,
+            seen: 0,
             seat: first,
         });
     }
@@ -131,7 +133,7 @@ impl<T: Growing> PoolLock<T> {
     {
         let mut others = others;
         while let Some(other) = others.pop() {
-            let NumberedSeat { number: _, seat } = other;
+            let NumberedSeat { seat, .. } = other;
             self.join(first, seat);
         }
         others.destroy_empty();
@@ -148,8 +150,8 @@ impl<T: Growing> PoolLock<T> {
         let mut others = passes;
         let Some(
             NumberedSeat {
-                number: _,
                 seat: mut first,
+                ..
             },
         ) = others.pop()
         else {

@@ -1,6 +1,6 @@
 // What each step on the table tells the seat that makes it.
 
-ghost use Rattle.pool_lock.specs.Told.{fetched, filled, drew, waited, looked, published, passed_on, first_of, rest_of, both_of, spent};
+ghost use Rattle.pool_lock.specs.Told.{fetched, filled, drew, waited, glanced, looked, published, passed_on, first_of, rest_of, both_of, spent};
 
 use crate::growing::Growing;
 use crate::view::View;
@@ -32,6 +32,13 @@ pub struct Turn;
 
 impl<T: Growing> Play<Option<T>, View<T::Item, T::Root>> for Turn {
     ghost then = { waited T.list T.root };
+}
+
+// A seat reads the count.
+pub struct Glance;
+
+impl<T: Growing> Play<Option<T>, View<T::Item, T::Root>> for Glance {
+    ghost then = { glanced };
 }
 
 // The event of a look: nothing is added to the count.

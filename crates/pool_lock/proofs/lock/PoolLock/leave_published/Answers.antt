@@ -10,7 +10,7 @@ pub fetch_add-at-requires : goal.fetch_add-at-requires
 fetch_add-at-requires g c =
     let s = c.requires.served in
     let e = back-in c.args.seat.now.me c.put_back.new.seat.me s.1 s.0 s.3 c.args.value s.8 c.put_back.ensures.full in
-    (search rules, search rules, publishes-at g.T.Growing.list g.T.Growing.root c.args.self.now.table.shared.key _ _ s.0 _ s.1 s.3 s.4 c.args.value s.7 e)
+    (search rules, search rules, publishes-at g.T.Growing.list g.T.Growing.root c.args.self.now.table.shared.key _ _ s.0 _ s.1 s.3 s.4 c.args.value s.7 c.requires.short e)
 
 pub pass_on-requires-clause-back : goal.pass_on-requires-clause-back
 pass_on-requires-clause-back g c =

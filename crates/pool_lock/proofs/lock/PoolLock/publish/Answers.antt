@@ -1,5 +1,5 @@
 use Rattle.std.proofs.Common.{ℕ, sym, ap, ◌∙◌, ◌++◌, ◌∷◌, [], length}
-use Rattle.pool_lock.specs.Views.{known}
+use Rattle.pool_lock.specs.Views.{known, seen_in}
 use Rattle.pool_lock.proofs.Sections.{entered, may-append, may-return-same, told-published}
 use Rattle.pool_lock.proofs.lock.PoolLock.publish.Goals as goal
 
@@ -36,3 +36,12 @@ returns-in-Ok-clause-told g c =
     let e = entered c.args.pass.now.seat.me c.enter-value.new.seat.me p (g.T.Growing.root c.enter-value.result) all h.3 c.enter-value.ensures.served in
     let q = c.leave_published.ensures.published e.ticket p all c.args.item e.served (c.in-Ok.ensures.added ∙ ap (λ (k : ℕ). all ++ (k, c.args.item) ∷ []) (sym h.2)) in
     told-published c.args.pass.now.seat.me c.leave_published.new.seat.me p c.leave_published.result (length all) c.args.item h.3 q.0 q.1
+
+pub invariant_of-pass : goal.invariant_of-pass
+invariant_of-pass g c =
+    let h = c.requires.ours in
+    let p = h.1 in
+    let all = g.T.Growing.list c.enter-value.result in
+    let e = entered c.args.pass.now.seat.me c.enter-value.new.seat.me p (g.T.Growing.root c.enter-value.result) all h.3 c.enter-value.ensures.served in
+    let q = c.leave_published.ensures.published e.ticket p all c.args.item e.served (c.in-Ok.ensures.added ∙ ap (λ (k : ℕ). all ++ (k, c.args.item) ∷ []) (sym h.2)) in
+    record { counted = c.args.pass.now.counted ∙ ap (λ m. length (seen_in m.0)) h.3 ∙ sym (ap (λ m. length (seen_in m.0)) q.1) }

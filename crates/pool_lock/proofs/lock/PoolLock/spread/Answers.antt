@@ -1,9 +1,8 @@
-use Rattle.std.proofs.Common.{◌≡◌, ◌+◌, ◌-◌, ◌<◌, ◌≤◌, ◌∙◌, [], ◌∷◌, ap, refl, rules, arith, length}
+use Rattle.std.proofs.Common.{◌≡◌, ◌+◌, ◌-◌, ◌<◌, ◌≤◌, ◌∙◌, [], ap, refl, rules, arith, length}
 use Rattle.std.proofs.lemmas.List.{length-append}
 use Rattle.pool_lock.specs.declared.view.Phase.TheVariants.{Idle}
-use Rattle.pool_lock.specs.Views.{view_of, fresh, fresh_from}
-use Rattle.pool_lock.specs.Calls.{opened_in}
-use Rattle.pool_lock.proofs.Passes.{fresh-two, split-first, split-rest, last-fresh, spread-one}
+use Rattle.pool_lock.specs.Views.{view_of, fresh, fresh_from, opened_in}
+use Rattle.pool_lock.proofs.Passes.{seen-none, fresh-two, split-first, split-rest, last-fresh, spread-one}
 use Rattle.pool_lock.proofs.lock.PoolLock.spread.Goals as goal
 
 pub split-seat-requires-clause-more : goal.split-seat-requires-clause-more
@@ -15,6 +14,13 @@ split-seat-requires-clause-more g c =
     let made = c.loop-number.invariant.made in
     let two : 2 ≤ c.args.count + 1 - c.loop-number.number = omega arith in
     (fresh o k, fresh o (k + 1), fresh_from o (k + 1 + 1) (n - 2), c.loop-number.invariant.first ∙ ap (λ ps. (view_of ps Idle, [])) (fresh-two o k n two))
+
+pub invariant_of-push_reserved : goal.invariant_of-push_reserved
+invariant_of-push_reserved g c =
+    let o = opened_in c.args.first.me.0 in
+    let less : c.loop-number.number < c.args.count = search rules in
+    let some : 1 ≤ c.args.count + 1 - c.loop-number.number = omega arith in
+    record { counted = seen-none o (c.loop-number.number - 1) c.split-seat.result.me (split-first o (c.loop-number.number - 1) (c.args.count + 1 - c.loop-number.number) c.loop-number.first.me c.split-seat.result.me some c.loop-number.invariant.first c.split-seat.ensures.first) }
 
 pub loop-number-preserved : goal.loop-number-preserved
 loop-number-preserved g c =
@@ -31,12 +37,12 @@ loop-number-preserved g c =
     let next : number - 1 + 1 ≡ number + 1 - 1 = omega arith in
     let fewer : count + 1 - number - 1 ≡ count + 1 - (number + 1) = omega arith in
     let place : length c.loop-number.all.items ≡ number - 1 = omega arith in
-    let longer = length-append c.loop-number.all.items (record { number = number - 1; seat = c.split-seat.result } ∷ []) in
-    let items = ap length c.push_reserved.ensures.items in
+    let its = split-first o k n c.loop-number.first.me c.split-seat.result.me some inv.first c.split-seat.ensures.first in
+    let items = ap length c.push_reserved.ensures.items ∙ length-append c.loop-number.all.items _ in
     record {
       own = c.split-seat.ensures.own.0 ∙ inv.own;
       first = split-rest o k n (number + 1 - 1) (count + 1 - (number + 1)) c.loop-number.first.me c.split-seat.new.seat.me some next fewer inv.first c.split-seat.ensures.rest;
-      passes = spread-one id o c.loop-number.all.items c.push_reserved.new.self.items (record { number = number - 1; seat = c.split-seat.result }) k inv.passes c.push_reserved.ensures.items place refl (c.split-seat.ensures.own.2 ∙ inv.own) (split-first o k n c.loop-number.first.me c.split-seat.result.me some inv.first c.split-seat.ensures.first);
+      passes = spread-one id o c.loop-number.all.items c.push_reserved.new.self.items _ k inv.passes c.push_reserved.ensures.items place refl (c.split-seat.ensures.own.2 ∙ inv.own) its;
       made = omega arith;
       room = search rules;
     }
@@ -52,4 +58,5 @@ returns-clause-fresh g c =
     let one : count + 1 - number ≡ 1 = omega arith in
     let last : number - 1 ≡ count - 1 = omega arith in
     let place : length c.loop-number.all.items ≡ count - 1 = omega arith in
-    spread-one c.args.self.now.table.shared.table_id o c.loop-number.all.items c.push_reserved-2.new.self.items (record { number = count - 1; seat = c.loop-number.first }) (count - 1) inv.passes c.push_reserved-2.ensures.items place refl inv.own (last-fresh o (number - 1) (count + 1 - number) (count - 1) c.loop-number.first.me one last inv.first)
+    let its = last-fresh o (number - 1) (count + 1 - number) (count - 1) c.loop-number.first.me one last inv.first in
+    spread-one c.args.self.now.table.shared.table_id o c.loop-number.all.items c.push_reserved-2.new.self.items _ (count - 1) inv.passes c.push_reserved-2.ensures.items place refl inv.own its

@@ -1,7 +1,7 @@
 use Rattle.std.proofs.Common.{◌≡◌, ◌≤◌, ◌+◌, ◌-◌, [], length, vec_capacity}
 use Rattle.pool_lock.specs.declared.view.Phase.TheVariants.{Idle}
-use Rattle.pool_lock.specs.Views.{view_of, fresh_from}
-use Rattle.pool_lock.specs.Calls.{AreFresh, opened_in}
+use Rattle.pool_lock.specs.Views.{view_of, fresh_from, opened_in}
+use Rattle.pool_lock.specs.Calls.{AreFresh}
 use Rattle.pool_lock.proofs.lock.PoolLock.spread.Given as goal
 
 abbrev pub invariant-loop-number : goal.invariant-loop-number

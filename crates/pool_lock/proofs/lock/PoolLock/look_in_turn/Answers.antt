@@ -1,5 +1,5 @@
 use Rattle.pool_lock.proofs.Sections.{entered, may-return, looked-at, looked-is}
-use Rattle.pool_lock.proofs.lock.PoolLock.look.Goals as goal
+use Rattle.pool_lock.proofs.lock.PoolLock.look_in_turn.Goals as goal
 
 pub leave_looked-requires-clause-served : goal.leave_looked-requires-clause-served
 leave_looked-requires-clause-served g c =
