@@ -1,3 +1,4 @@
 pub mod Content
 pub mod Tested
 pub mod Unproved
+pub mod Items

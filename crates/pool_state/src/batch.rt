@@ -93,6 +93,14 @@ impl Batch {
         }
     }
 
+    /// The system, to read.
+    pub fn system(&self) -> &Arc<System>
+        ensures is { arc_value result.now ≡ self.now.system }
+        ensures keeps { IsBatch self.now }
+    {
+        &self.system
+    }
+
     /// The base, to read.
     pub fn base(&self) -> &[Lemma]
         ensures is { result.now ≡ self.now.base }

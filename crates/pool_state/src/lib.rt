@@ -11,6 +11,7 @@ mod joined;
 mod laws;
 mod obligations;
 mod pool;
+mod shared;
 
 pub use batch::Batch;
 pub use fault::BatchFault;

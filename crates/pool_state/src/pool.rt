@@ -1,6 +1,6 @@
 // The lemmas of a system, as batches bring them.
 
-ghost use Rattle.std.specs.Prelude.{◌≡◌, ◌∷◌, ◌++◌, [], true, is_ok, if◌then◌else◌};
+ghost use Rattle.std.specs.Prelude.{◌≡◌, ◌≤◌, ◌<◌, ◌^◌, ◌∷◌, ◌++◌, [], true, length, drop, is_ok, IfOk, if◌then◌else◌};
 ghost use Rattle.std.specs.Arc.{arc_value};
 ghost use Rattle.chc_form.specs.Solving.{Solves};
 ghost use Rattle.chc_form.specs.WellMade.{well_made};
@@ -71,6 +71,27 @@ impl Pool {
         ensures solves { Solves self.now.system self.now.lemmas }
     {
         self.lemmas.as_slice()
+    }
+
+    // What every pool keeps.
+    pub(crate) fn kept(&self)
+        ensures pool { IsPool self.now }
+        ensures few { length self.now.batches < 2 ^ 63 }
+    {
+        let _count = self.batches.len();
+    }
+
+    // Copies of the lemmas from a place on.
+    pub(crate) fn copies_from(&self, at: usize) -> Result<Vec<Lemma>, NoMemory>
+        requires { at ≤ length self.now.lemmas }
+        ensures { IfOk result (λ ls. ls.items ≡ drop at self.now.lemmas) }
+    {
+        let alloc = *self.lemmas.allocator();
+        let mut copies = Vec::new(alloc);
+        for lemma in &self.lemmas[at..] {
+            copies.push(lemma.copy(alloc)?)?;
+        }
+        Ok(copies)
     }
 
     /// The batch joins, in the name of a worker, with no copy of a lemma. Without memory the pool stays as it was, and
