@@ -7,6 +7,8 @@ mod ask;
 #[cfg(test)]
 mod cert;
 #[cfg(test)]
+mod core_events;
+#[cfg(test)]
 mod counter;
 #[cfg(test)]
 mod form;

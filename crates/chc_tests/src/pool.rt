@@ -16,7 +16,7 @@ use std::test::Fail;
 // Multipliers for the rows of x <= k at the first rule, k + 1 - x and x, and at the second, k + 1 - y, x - 9 and
 // y - x - 1, where one lemma is had and where two are.
 #[derive(Clone, Copy)]
-enum Proof {
+pub enum Proof {
     Start,
     Step,
     StepUnderTwo,
@@ -31,7 +31,7 @@ fn multipliers(alloc: Global, proof: Proof) -> Result<List<i128>, NoMemory> {
     Ok(List::from_vec(of))
 }
 
-fn proofs(alloc: Global, proofs: &[Proof]) -> Result<Vec<List<i128>>, NoMemory> {
+pub fn proofs(alloc: Global, proofs: &[Proof]) -> Result<Vec<List<i128>>, NoMemory> {
     let mut all = Vec::new(alloc);
     for proof in proofs {
         all.push(multipliers(alloc, *proof)?)?;
@@ -46,7 +46,7 @@ fn are_of(s: &System, lemmas: &[Lemma]) -> bool
 }
 
 // What comes of a batch; none where the conditions for one aren't met.
-fn batch_of(
+pub fn batch_of(
     alloc: Global,
     s: &Arc<System>,
     base: Vec<Lemma>,
@@ -65,7 +65,7 @@ fn batch_of(
 }
 
 // That the argument is at most a number, with no base; none where there is no such batch.
-fn free_batch(alloc: Global, s: &Arc<System>, most: i128) -> Result<Option<Batch>, NoMemory>
+pub fn free_batch(alloc: Global, s: &Arc<System>, most: i128) -> Result<Option<Batch>, NoMemory>
     ensures { IfOk result (λ o. IfSome o (λ b. (b.system ≡ arc_value s.now) × (b.base ≡ []))) }
 {
     let proofs = proofs(alloc, &[Proof::Start, Proof::Step])?;

@@ -1,0 +1,4 @@
+pub mod Core
+pub mod Marks
+pub mod Steps
+pub mod Runs
