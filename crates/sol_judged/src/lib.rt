@@ -21,10 +21,13 @@ mod types;
 
 pub use expressions::{judge, judge_all};
 pub use fault::TypeFault;
-pub use findings::{Call, Found, Thing};
+pub use findings::{Call, Found, Thing, Value};
 pub use linked::Members;
+pub use names::{last_binding, meaning_of};
+pub use operands::{call_type, side, wanted};
+pub use operators::truth;
 pub use rules::Rule;
 pub use tables::{
     Binding, Constant, Declared, Function, MapType, Meaning, Member, OuterFunction, Surroundings,
 };
-pub use types::ValueType;
+pub use types::{ValueType, common, is_integer, widens};

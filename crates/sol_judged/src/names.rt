@@ -21,7 +21,8 @@ fn behind(units: &[u32], unit: u32) -> &[u32]
     &[]
 }
 
-fn last_binding(bindings: &[Binding], name: &str) -> Option<Meaning>
+/// What a local name means: the last one of that name counts.
+pub fn last_binding(bindings: &[Binding], name: &str) -> Option<Meaning>
     ensures { result ≡ last_binding bindings.now name.now }
 {
     let mut last = None;

@@ -47,7 +47,8 @@ pub fn literals(a: &Found, b: &Found) -> Option<(i128, i128)>
     }
 }
 
-fn call_type(call: &Call) -> Option<ValueType>
+/// The type that a call returns.
+pub fn call_type(call: &Call) -> Option<ValueType>
     ensures { result ≡ call_type call.now }
 {
     match call {

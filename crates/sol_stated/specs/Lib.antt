@@ -1,0 +1,13 @@
+pub mod Checks
+pub mod Contexts
+pub mod Scopes
+pub mod ValueTypes
+pub mod Values
+pub mod Targets
+pub mod Declarations
+pub mod Raising
+pub mod Returns
+pub mod Simples
+pub mod Statements
+pub mod Marks
+pub mod Bodies
