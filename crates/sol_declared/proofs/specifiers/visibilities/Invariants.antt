@@ -1,0 +1,6 @@
+use Rattle.std.proofs.Common.{◌≡◌, ◌≤◌, ◌+◌, drop}
+use Rattle.sol_declared.specs.Specifiers.{how_many, is_visibility}
+use Rattle.sol_declared.proofs.specifiers.visibilities.Given as goal
+
+abbrev pub invariant-loop-mark : goal.invariant-loop-mark
+invariant-loop-mark l = (how_many is_visibility l.fn.marks ≡ l.count + how_many is_visibility (drop l.mark-index l.fn.marks)) × (l.count ≤ l.mark-index)

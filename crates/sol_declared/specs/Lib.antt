@@ -1,0 +1,5 @@
+pub mod Specifiers
+pub mod MemberKinds
+pub mod StateTypes
+pub mod Initialisers
+pub mod Members
