@@ -1,7 +1,6 @@
 -- A call from outside that changed scalars, turns and hits alone, settled with the scalars from before it.
 use Rattle.std.proofs.Common.{◌≡◌, List, false, refl}
 use lib.IntN.{ℤ}
-use Rattle.sol_core.specs.declared.State.{State}
 use Rattle.sol_meaning.specs.declared.World.{World}
 use Rattle.sol_meaning.specs.declared.Got.{Got}
 use Rattle.sol_meaning.specs.declared.Got.TheVariants as got

@@ -1,5 +1,5 @@
 -- What a sized form has: sized parts.
-use Rattle.std.proofs.Common.{◌≡◌, ◌∙◌, sym, ap, ℕ, zero, suc, Bool, true, false, ◌&&◌, List, [], ◌∷◌, Option, Some, slice_get, nat_le, arith}
+use Rattle.std.proofs.Common.{◌≡◌, ◌∙◌, sym, ap, ℕ, zero, suc, Bool, true, false, ◌&&◌, List, [], ◌∷◌, Option, Some, map, refl, slice_get, nat_le, arith}
 use Rattle.std.specs.List.{list_all}
 use lib.IntN.{ℤ}
 use Rattle.std.proofs.lemmas.Bool.Decides.{nat_tests}
@@ -20,7 +20,8 @@ use Rattle.sol_core.specs.declared.Stmt.{Stmt, Set, Step, Push, Pop, Clear, Out,
 use Rattle.sol_core.specs.declared.Stmt.TheVariants as statement
 use Rattle.sol_core.specs.declared.Stmt.TheOpen.{Stmt-F}
 use Rattle.sol_core.specs.declared.Stmt.TheFolds.{fold-Stmt, fold-roll-Stmt}
-use Rattle.sol_eval.specs.Sized.{type_sized, expr_layer, expr_sized, place_sized, stmt_layer, stmt_sized, fun_sized, build_sized, is_sized}
+use Rattle.sol_core.specs.Values.{each}
+use Rattle.sol_eval.specs.Sized.{type_sized, expr_layer, expr_sized, place_sized, place_sized_if, stmt_layer, stmt_sized, fun_sized, build_sized, is_sized}
 use Rattle.sol_core.specs.declared.Fun.{Fun}
 use Rattle.sol_core.specs.declared.Program.{Program}
 
@@ -29,6 +30,11 @@ type_size ty.Bool h = tt
 type_size (ty.Uint s) h = let p = and_parts (nat_le 1 s) (nat_le s 12) h in (grind (arith, nat_tests), grind (arith, nat_tests))
 type_size (ty.Int s) h = let p = and_parts (nat_le 1 s) (nat_le s 12) h in (grind (arith, nat_tests), grind (arith, nat_tests))
 type_size ty.Addr h = tt
+
+-- a test of every part
+each-part : {A : Type 0} (test : A → Bool) (xs : List A) → each (map test xs) ≡ list_all test xs
+each-part test [] = refl
+each-part test (x ∷ xs) = ap (λ (b : Bool). test x && b) (each-part test xs)
 
 pub sized-Num : (n : ℤ) (t : Ty) → expr_sized (Num n t) ≡ true
 unfolding expr_sized
@@ -50,11 +56,11 @@ pub sized-MapAt : (m : ℕ) (es : List Expr) → expr_sized (MapAt m es) ≡ fal
 unfolding expr_sized
 sized-MapAt m es = ap (λ (z : Expr). fold-Expr Bool expr_layer z) (sym (expression.rolls-MapAt m es)) ∙ fold-roll-Expr Bool expr_layer (Expr-F.MapAt m es)
 
-pub sized-ElemAt : (a : ℕ) (e : Expr) (site : ℕ) → expr_sized (ElemAt a e site) ≡ false
+pub sized-ElemAt : (a : ℕ) (e : Expr) (site : ℕ) → expr_sized (ElemAt a e site) ≡ expr_sized e
 unfolding expr_sized
 sized-ElemAt a e site = ap (λ (z : Expr). fold-Expr Bool expr_layer z) (sym (expression.rolls-ElemAt a e site)) ∙ fold-roll-Expr Bool expr_layer (Expr-F.ElemAt a e site)
 
-pub sized-Len : (a : ℕ) → expr_sized (Len a) ≡ false
+pub sized-Len : (a : ℕ) → expr_sized (Len a) ≡ true
 unfolding expr_sized
 sized-Len a = ap (λ (z : Expr). fold-Expr Bool expr_layer z) (sym (expression.rolls-Len a)) ∙ fold-roll-Expr Bool expr_layer (Expr-F.Len a)
 
@@ -70,15 +76,15 @@ pub sized-Not : (a : Expr) → expr_sized (Not a) ≡ expr_sized a
 unfolding expr_sized
 sized-Not a = ap (λ (z : Expr). fold-Expr Bool expr_layer z) (sym (expression.rolls-Not a)) ∙ fold-roll-Expr Bool expr_layer (Expr-F.Not a)
 
-pub sized-Both : (a b : Expr) → expr_sized (Both a b) ≡ false
+pub sized-Both : (a b : Expr) → expr_sized (Both a b) ≡ (expr_sized a && expr_sized b)
 unfolding expr_sized
 sized-Both a b = ap (λ (z : Expr). fold-Expr Bool expr_layer z) (sym (expression.rolls-Both a b)) ∙ fold-roll-Expr Bool expr_layer (Expr-F.Both a b)
 
-pub sized-Either : (a b : Expr) → expr_sized (Either a b) ≡ false
+pub sized-Either : (a b : Expr) → expr_sized (Either a b) ≡ (expr_sized a && expr_sized b)
 unfolding expr_sized
 sized-Either a b = ap (λ (z : Expr). fold-Expr Bool expr_layer z) (sym (expression.rolls-Either a b)) ∙ fold-roll-Expr Bool expr_layer (Expr-F.Either a b)
 
-pub sized-Pick : (a b c : Expr) → expr_sized (Pick a b c) ≡ false
+pub sized-Pick : (a b c : Expr) → expr_sized (Pick a b c) ≡ (expr_sized a && (expr_sized b && expr_sized c))
 unfolding expr_sized
 sized-Pick a b c = ap (λ (z : Expr). fold-Expr Bool expr_layer z) (sym (expression.rolls-Pick a b c)) ∙ fold-roll-Expr Bool expr_layer (Expr-F.Pick a b c)
 
@@ -86,9 +92,9 @@ pub sized-Cast : (s t : Ty) (a : Expr) → expr_sized (Cast s t a) ≡ (type_siz
 unfolding expr_sized
 sized-Cast s t a = ap (λ (z : Expr). fold-Expr Bool expr_layer z) (sym (expression.rolls-Cast s t a)) ∙ fold-roll-Expr Bool expr_layer (Expr-F.Cast s t a)
 
-pub sized-Call : (g : ℕ) (es : List Expr) → expr_sized (Call g es) ≡ false
+pub sized-Call : (g : ℕ) (es : List Expr) → expr_sized (Call g es) ≡ list_all expr_sized es
 unfolding expr_sized
-sized-Call g es = ap (λ (z : Expr). fold-Expr Bool expr_layer z) (sym (expression.rolls-Call g es)) ∙ fold-roll-Expr Bool expr_layer (Expr-F.Call g es)
+sized-Call g es = ap (λ (z : Expr). fold-Expr Bool expr_layer z) (sym (expression.rolls-Call g es)) ∙ fold-roll-Expr Bool expr_layer (Expr-F.Call g es) ∙ each-part expr_sized es
 
 pub sized-Set : (p : Place) (e : Expr) → stmt_sized (Set p e) ≡ (place_sized p && expr_sized e)
 unfolding stmt_sized
@@ -110,7 +116,7 @@ pub sized-Clear : (a : ℕ) → stmt_sized (Clear a) ≡ false
 unfolding stmt_sized
 sized-Clear a = ap (λ (z : Stmt). fold-Stmt Bool stmt_layer z) (sym (statement.rolls-Clear a)) ∙ fold-roll-Stmt Bool stmt_layer (Stmt-F.Clear a)
 
-pub sized-StmtCall : (p : Option Place) (g : ℕ) (es : List Expr) → stmt_sized (statement_of.Call p g es) ≡ false
+pub sized-StmtCall : (p : Option Place) (g : ℕ) (es : List Expr) → stmt_sized (statement_of.Call p g es) ≡ (place_sized_if p && list_all expr_sized es)
 unfolding stmt_sized
 sized-StmtCall p g es = ap (λ (z : Stmt). fold-Stmt Bool stmt_layer z) (sym (statement.rolls-Call p g es)) ∙ fold-roll-Stmt Bool stmt_layer (Stmt-F.Call p g es)
 
@@ -118,17 +124,17 @@ pub sized-Out : (p : Option Place) (g : ℕ) (e : Expr) (es : List Expr) → stm
 unfolding stmt_sized
 sized-Out p g e es = ap (λ (z : Stmt). fold-Stmt Bool stmt_layer z) (sym (statement.rolls-Out p g e es)) ∙ fold-roll-Stmt Bool stmt_layer (Stmt-F.Out p g e es)
 
-pub sized-If : (e : Expr) (a b : List Stmt) → stmt_sized (If e a b) ≡ false
+pub sized-If : (e : Expr) (a b : List Stmt) → stmt_sized (If e a b) ≡ (expr_sized e && (list_all stmt_sized a && list_all stmt_sized b))
 unfolding stmt_sized
-sized-If e a b = ap (λ (z : Stmt). fold-Stmt Bool stmt_layer z) (sym (statement.rolls-If e a b)) ∙ fold-roll-Stmt Bool stmt_layer (Stmt-F.If e a b)
+sized-If e a b = ap (λ (z : Stmt). fold-Stmt Bool stmt_layer z) (sym (statement.rolls-If e a b)) ∙ fold-roll-Stmt Bool stmt_layer (Stmt-F.If e a b) ∙ ap (λ (y : Bool). expr_sized e && (y && each (map stmt_sized b))) (each-part stmt_sized a) ∙ ap (λ (y : Bool). expr_sized e && (list_all stmt_sized a && y)) (each-part stmt_sized b)
 
-pub sized-While : (e : Expr) (a b : List Stmt) → stmt_sized (While e a b) ≡ false
+pub sized-While : (e : Expr) (a b : List Stmt) → stmt_sized (While e a b) ≡ (expr_sized e && (list_all stmt_sized a && list_all stmt_sized b))
 unfolding stmt_sized
-sized-While e a b = ap (λ (z : Stmt). fold-Stmt Bool stmt_layer z) (sym (statement.rolls-While e a b)) ∙ fold-roll-Stmt Bool stmt_layer (Stmt-F.While e a b)
+sized-While e a b = ap (λ (z : Stmt). fold-Stmt Bool stmt_layer z) (sym (statement.rolls-While e a b)) ∙ fold-roll-Stmt Bool stmt_layer (Stmt-F.While e a b) ∙ ap (λ (y : Bool). expr_sized e && (y && each (map stmt_sized b))) (each-part stmt_sized a) ∙ ap (λ (y : Bool). expr_sized e && (list_all stmt_sized a && y)) (each-part stmt_sized b)
 
-pub sized-DoWhile : (a : List Stmt) (e : Expr) → stmt_sized (DoWhile a e) ≡ false
+pub sized-DoWhile : (a : List Stmt) (e : Expr) → stmt_sized (DoWhile a e) ≡ (list_all stmt_sized a && expr_sized e)
 unfolding stmt_sized
-sized-DoWhile a e = ap (λ (z : Stmt). fold-Stmt Bool stmt_layer z) (sym (statement.rolls-DoWhile a e)) ∙ fold-roll-Stmt Bool stmt_layer (Stmt-F.DoWhile a e)
+sized-DoWhile a e = ap (λ (z : Stmt). fold-Stmt Bool stmt_layer z) (sym (statement.rolls-DoWhile a e)) ∙ fold-roll-Stmt Bool stmt_layer (Stmt-F.DoWhile a e) ∙ ap (λ (y : Bool). y && expr_sized e) (each-part stmt_sized a)
 
 pub sized-Break : stmt_sized Break ≡ true
 unfolding stmt_sized
@@ -142,9 +148,9 @@ pub sized-Leave : stmt_sized Leave ≡ true
 unfolding stmt_sized
 sized-Leave = ap (λ (z : Stmt). fold-Stmt Bool stmt_layer z) (sym statement.rolls-Leave) ∙ fold-roll-Stmt Bool stmt_layer Stmt-F.Leave
 
-pub sized-Scope : (a : List Stmt) → stmt_sized (Scope a) ≡ false
+pub sized-Scope : (a : List Stmt) → stmt_sized (Scope a) ≡ list_all stmt_sized a
 unfolding stmt_sized
-sized-Scope a = ap (λ (z : Stmt). fold-Stmt Bool stmt_layer z) (sym (statement.rolls-Scope a)) ∙ fold-roll-Stmt Bool stmt_layer (Stmt-F.Scope a)
+sized-Scope a = ap (λ (z : Stmt). fold-Stmt Bool stmt_layer z) (sym (statement.rolls-Scope a)) ∙ fold-roll-Stmt Bool stmt_layer (Stmt-F.Scope a) ∙ each-part stmt_sized a
 
 pub sized-Require : (e : Expr) → stmt_sized (Require e) ≡ expr_sized e
 unfolding stmt_sized
@@ -154,59 +160,13 @@ pub sized-Assert : (e : Expr) (site : ℕ) → stmt_sized (Assert e site) ≡ ex
 unfolding stmt_sized
 sized-Assert e site = ap (λ (z : Stmt). fold-Stmt Bool stmt_layer z) (sym (statement.rolls-Assert e site)) ∙ fold-roll-Stmt Bool stmt_layer (Stmt-F.Assert e site)
 
-pub sized-Revert : (es : List Expr) → stmt_sized (Revert es) ≡ false
+pub sized-Revert : (es : List Expr) → stmt_sized (Revert es) ≡ list_all expr_sized es
 unfolding stmt_sized
 sized-Revert es = ap (λ (z : Stmt). fold-Stmt Bool stmt_layer z) (sym (statement.rolls-Revert es)) ∙ fold-roll-Stmt Bool stmt_layer (Stmt-F.Revert es)
 
-pub sized-Emit : (es : List Expr) → stmt_sized (Emit es) ≡ false
+pub sized-Emit : (es : List Expr) → stmt_sized (Emit es) ≡ list_all expr_sized es
 unfolding stmt_sized
 sized-Emit es = ap (λ (z : Stmt). fold-Stmt Bool stmt_layer z) (sym (statement.rolls-Emit es)) ∙ fold-roll-Stmt Bool stmt_layer (Stmt-F.Emit es)
-
--- the parts of a form that is sized
-pub arith-checked : (o : Op) (t : Ty) (c : Bool) (a b : Expr) (m : PanicSites) → expr_sized (Arith o t c a b m) ≡ true → c ≡ true
-arith-checked o t c a b m h = (and_parts c (type_sized t && (expr_sized a && expr_sized b)) (sym (sized-Arith o t c a b m) ∙ h)).0
-
-arith-parts : (o : Op) (t : Ty) (c : Bool) (a b : Expr) (m : PanicSites) → expr_sized (Arith o t c a b m) ≡ true → (type_sized t ≡ true) × (expr_sized a ≡ true) × (expr_sized b ≡ true)
-arith-parts o t c a b m h =
-    let all = and_parts (type_sized t) (expr_sized a && expr_sized b) (and_parts c (type_sized t && (expr_sized a && expr_sized b)) (sym (sized-Arith o t c a b m) ∙ h)).1 in
-    let both = and_parts (expr_sized a) (expr_sized b) all.1 in
-    (all.0, both.0, both.1)
-
-pub arith-type : (o : Op) (t : Ty) (c : Bool) (a b : Expr) (m : PanicSites) → expr_sized (Arith o t c a b m) ≡ true → type_sized t ≡ true
-arith-type o t c a b m h = (arith-parts o t c a b m h).0
-
-pub arith-first : (o : Op) (t : Ty) (c : Bool) (a b : Expr) (m : PanicSites) → expr_sized (Arith o t c a b m) ≡ true → expr_sized a ≡ true
-arith-first o t c a b m h = (arith-parts o t c a b m h).1
-
-pub arith-second : (o : Op) (t : Ty) (c : Bool) (a b : Expr) (m : PanicSites) → expr_sized (Arith o t c a b m) ≡ true → expr_sized b ≡ true
-arith-second o t c a b m h = (arith-parts o t c a b m h).2
-
-pub not-value : (a : Expr) → expr_sized (Not a) ≡ true → expr_sized a ≡ true
-not-value a h = sym (sized-Not a) ∙ h
-
-pub compare-first : (c : Cmp) (a b : Expr) → expr_sized (Compare c a b) ≡ true → expr_sized a ≡ true
-compare-first c a b h = (and_parts (expr_sized a) (expr_sized b) (sym (sized-Compare c a b) ∙ h)).0
-
-pub compare-second : (c : Cmp) (a b : Expr) → expr_sized (Compare c a b) ≡ true → expr_sized b ≡ true
-compare-second c a b h = (and_parts (expr_sized a) (expr_sized b) (sym (sized-Compare c a b) ∙ h)).1
-
-pub cast-type : (s t : Ty) (a : Expr) → expr_sized (Cast s t a) ≡ true → type_sized t ≡ true
-cast-type s t a h = (and_parts (type_sized t) (expr_sized a) (sym (sized-Cast s t a) ∙ h)).0
-
-pub cast-value : (s t : Ty) (a : Expr) → expr_sized (Cast s t a) ≡ true → expr_sized a ≡ true
-cast-value s t a h = (and_parts (type_sized t) (expr_sized a) (sym (sized-Cast s t a) ∙ h)).1
-
-pub set-value : (p : Place) (e : Expr) → stmt_sized (Set p e) ≡ true → expr_sized e ≡ true
-set-value p e h = (and_parts (place_sized p) (expr_sized e) (sym (sized-Set p e) ∙ h)).1
-
-pub set-place : (p : Place) (e : Expr) → stmt_sized (Set p e) ≡ true → place_sized p ≡ true
-set-place p e h = (and_parts (place_sized p) (expr_sized e) (sym (sized-Set p e) ∙ h)).0
-
-pub require-condition : (e : Expr) → stmt_sized (Require e) ≡ true → expr_sized e ≡ true
-require-condition e h = sym (sized-Require e) ∙ h
-
-pub assert-condition : (e : Expr) (site : ℕ) → stmt_sized (Assert e site) ≡ true → expr_sized e ≡ true
-assert-condition e site h = sym (sized-Assert e site) ∙ h
 
 -- an entry of a list of sized forms
 pub entry-sized : {A : Type 0} (test : A → Bool) (xs : List A) (i : ℕ) (x : A) → list_all test xs ≡ true → slice_get xs i ≡ Some x → test x ≡ true
@@ -231,12 +191,9 @@ body_sized fs i f h e = entry-sized fun_sized fs i f h e
 
 pub ruleset programs = (bodies-sized, initialisers-sized)
 
-pub ruleset expressions = (arith-type, arith-first, arith-second, arith-checked, compare-first, compare-second, cast-type, cast-value, not-value)
-
-pub ruleset forms = (set-value, set-place, require-condition, assert-condition)
-
 -- when each form is sized
-pub ruleset sized = (sized-Num, sized-Local, sized-Scalar, sized-Sender, sized-Arith, sized-Compare, sized-Not, sized-Cast, sized-Set, sized-Break, sized-Continue, sized-Leave, sized-Require, sized-Assert)
+pub ruleset sized_expressions = (sized-Num, sized-Local, sized-Scalar, sized-Sender, sized-MapAt, sized-ElemAt, sized-Len, sized-Arith, sized-Compare, sized-Not, sized-Both, sized-Either, sized-Pick, sized-Cast, sized-Call)
 
--- the forms that are not
-pub ruleset excluded = (sized-MapAt, sized-ElemAt, sized-Len, sized-Both, sized-Either, sized-Pick, sized-Call, sized-Step, sized-Push, sized-Pop, sized-Clear, sized-StmtCall, sized-Out, sized-If, sized-While, sized-DoWhile, sized-Scope, sized-Revert, sized-Emit)
+pub ruleset sized_statements = (sized-Set, sized-Step, sized-Push, sized-Pop, sized-Clear, sized-StmtCall, sized-Out, sized-If, sized-While, sized-DoWhile, sized-Break, sized-Continue, sized-Leave, sized-Scope, sized-Require, sized-Assert, sized-Revert, sized-Emit)
+
+pub ruleset sized = (sized_expressions, sized_statements)

@@ -1,10 +1,10 @@
 -- The frame that an evaluator runs in.
 use Rattle.sol_meaning.specs.Frames.{Caller, Frame}
 use Rattle.sol_meaning.specs.Calling.{level_at}
-use Rattle.sol_eval.specs.declared.frames.Running.{Running}
+use Rattle.sol_eval.specs.declared.frames as frames
 
-abbrev pub caller_in : Running → Caller
-caller_in r = record { sender = r.sender; is_static = r.is_static; replies = r.replies.now }
+abbrev pub caller_in : frames.Caller.Caller → Caller
+caller_in c = record { sender = c.sender; is_static = c.is_static; replies = c.replies.now }
 
-abbrev pub frame_in : Running → Frame
-frame_in r = record { level = level_at r.program.now r.level; caller = caller_in r }
+abbrev pub frame_in : frames.Frame.Frame → Frame
+frame_in f = record { level = level_at f.program.now f.level; caller = caller_in f.caller.now }

@@ -1,6 +1,6 @@
 -- Whether a program is one that is computed: it has only the forms that the evaluator computes, and the types of its
 -- operations and those that its conversions give have sizes that Solidity has, in every body and every initialiser.
-use Rattle.std.specs.Prelude.{ℕ, Bool, true, false, nat_le, ◌&&◌}
+use Rattle.std.specs.Prelude.{ℕ, Option, Some, None, Bool, true, false, nat_le, ◌&&◌}
 use Rattle.std.specs.List.{list_all}
 use Rattle.chc_nums.specs.declared.Ty.{Ty}
 use Rattle.chc_nums.specs.declared.Ty.TheVariants as ty
@@ -12,6 +12,7 @@ use Rattle.sol_core.specs.declared.Place.TheVariants as place
 use Rattle.sol_core.specs.declared.Stmt.{Stmt}
 use Rattle.sol_core.specs.declared.Stmt.TheOpen.{Stmt-F}
 use Rattle.sol_core.specs.declared.Stmt.TheFolds.{fold-Stmt}
+use Rattle.sol_core.specs.Values.{each}
 use Rattle.sol_core.specs.declared.Fun.{Fun}
 use Rattle.sol_core.specs.declared.Build.{Build}
 use Rattle.sol_core.specs.declared.Program.{Program}
@@ -31,17 +32,17 @@ expr_layer (Expr-F.Num n t) = true
 expr_layer (Expr-F.Local i) = true
 expr_layer (Expr-F.Scalar i) = true
 expr_layer (Expr-F.MapAt m es) = false
-expr_layer (Expr-F.ElemAt a e site) = false
-expr_layer (Expr-F.Len a) = false
+expr_layer (Expr-F.ElemAt a e site) = e
+expr_layer (Expr-F.Len a) = true
 expr_layer Expr-F.Sender = true
 expr_layer (Expr-F.Arith o t c a b m) = c && (type_sized t && (a && b))
 expr_layer (Expr-F.Compare c a b) = a && b
 expr_layer (Expr-F.Not a) = a
-expr_layer (Expr-F.Both a b) = false
-expr_layer (Expr-F.Either a b) = false
-expr_layer (Expr-F.Pick a b c) = false
+expr_layer (Expr-F.Both a b) = a && b
+expr_layer (Expr-F.Either a b) = a && b
+expr_layer (Expr-F.Pick a b c) = a && (b && c)
 expr_layer (Expr-F.Cast s t a) = type_sized t && a
-expr_layer (Expr-F.Call f es) = false
+expr_layer (Expr-F.Call f es) = each es
 
 -- whether every operation and conversion of an expression is in a type of such a size
 unfoldable pub expr_sized : Expr → Bool
@@ -53,25 +54,29 @@ place_sized (place.Scalar i) = true
 place_sized (place.Map m es) = false
 place_sized (place.Elem a e site) = false
 
+abbrev pub place_sized_if : Option Place → Bool
+place_sized_if None = true
+place_sized_if (Some p) = place_sized p
+
 abbrev pub stmt_layer : Stmt-F Bool → Bool
 stmt_layer (Stmt-F.Set p e) = place_sized p && expr_sized e
 stmt_layer (Stmt-F.Step p o t c e m) = false
 stmt_layer (Stmt-F.Push a e) = false
 stmt_layer (Stmt-F.Pop a site) = false
 stmt_layer (Stmt-F.Clear a) = false
-stmt_layer (Stmt-F.Call p f es) = false
+stmt_layer (Stmt-F.Call p f es) = place_sized_if p && list_all expr_sized es
 stmt_layer (Stmt-F.Out p f e es) = false
-stmt_layer (Stmt-F.If e a b) = false
-stmt_layer (Stmt-F.While e a b) = false
-stmt_layer (Stmt-F.DoWhile a e) = false
+stmt_layer (Stmt-F.If e a b) = expr_sized e && (each a && each b)
+stmt_layer (Stmt-F.While e a b) = expr_sized e && (each a && each b)
+stmt_layer (Stmt-F.DoWhile a e) = each a && expr_sized e
 stmt_layer Stmt-F.Break = true
 stmt_layer Stmt-F.Continue = true
 stmt_layer Stmt-F.Leave = true
-stmt_layer (Stmt-F.Scope a) = false
+stmt_layer (Stmt-F.Scope a) = each a
 stmt_layer (Stmt-F.Require e) = expr_sized e
 stmt_layer (Stmt-F.Assert e site) = expr_sized e
-stmt_layer (Stmt-F.Revert es) = false
-stmt_layer (Stmt-F.Emit es) = false
+stmt_layer (Stmt-F.Revert es) = list_all expr_sized es
+stmt_layer (Stmt-F.Emit es) = list_all expr_sized es
 
 unfoldable pub stmt_sized : Stmt → Bool
 stmt_sized s = fold-Stmt Bool stmt_layer s

@@ -7,12 +7,11 @@ ghost use Rattle.sol_meaning.specs.Exec.{all_of, ends};
 ghost use Rattle.sol_meaning.specs.Run.{zero_state, build_arg, constructed, built, fresh};
 ghost use Rattle.sol_eval.specs.Ran.{Ran};
 ghost use Rattle.sol_eval.specs.Framed.{frame_in};
-ghost use Rattle.sol_eval.specs.Sized.{fun_sized, build_sized};
+ghost use Rattle.sol_eval.specs.Makes.{Makes};
+ghost use Rattle.sol_eval.specs.Sized.{build_sized};
 
-use crate::calls::call;
-use crate::frames::Running;
+use crate::frames::{Frame, Runner};
 use crate::numbers::number_at;
-use crate::statements::exec_all;
 use chc_nums::{List, NoMemory, Ty};
 use sol_core::{Build, BuildArg, MapTy, MapVal, Program, State};
 use sol_meaning::{End, Got, World};
@@ -75,78 +74,61 @@ fn empty_arrays(alloc: Global, types: &[Ty]) -> Result<List<List<i128>>, NoMemor
     Ok(all)
 }
 
-/// Each contract's initialisers and constructor, contract by contract.
-pub fn build_all(
-    alloc: Global,
-    r: &Running,
-    given: &[i128],
-    builds: &[Build],
-    w: &mut World,
-) -> Result<Got<End>, NoMemory>
-    requires bodies { IsTrue (list_all fun_sized r.now.program.now.funs) }
-    requires initialisers { IsTrue (list_all build_sized builds.now) }
-    ensures { Ran (all_of (map (built (frame_in r.now) given.now) builds.now) w.old) result w.new }
-{
-    for b in builds {
-        match build(alloc, r, given, b, w)? {
-            Got::Value(End::Normal) => {}
-            other => return Ok(other),
+impl<F: Fn(Global, &Frame, u32, &[i128], &mut World) -> Result<Got<i128>, NoMemory>> Runner<'_, F> {
+    /// Each contract's initialisers and constructor, contract by contract.
+    pub fn build_all(
+        &self,
+        given: &[i128],
+        builds: &[Build],
+        w: &mut World,
+    ) -> Result<Got<End>, NoMemory>
+        requires runs { Makes self.now.frame.program.now self.now.frame.level (F.pre self.now.call) (F.post self.now.call) }
+        requires sized { IsTrue (list_all build_sized builds.now) }
+        ensures { Ran (all_of (map (built (frame_in self.now.frame) given.now) builds.now) w.old) result w.new }
+    {
+        for b in builds {
+            match self.build(given, b, w)? {
+                Got::Value(End::Normal) => {}
+                other => return Ok(other),
+            }
+        }
+        Ok(Got::Value(End::Normal))
+    }
+
+    fn build(&self, given: &[i128], b: &Build, w: &mut World) -> Result<Got<End>, NoMemory>
+        requires runs { Makes self.now.frame.program.now self.now.frame.level (F.pre self.now.call) (F.post self.now.call) }
+        requires sized { IsTrue (build_sized b.now) }
+        ensures { Ran (built (frame_in self.now.frame) given.now b.now w.old) result w.new }
+    {
+        match self.exec_all(b.inits.as_slice(), w)? {
+            Got::Value(_) => self.construct(given, b, w),
+            Got::Reverted => Ok(Got::Reverted),
+            Got::Cut => Ok(Got::Cut),
         }
     }
-    Ok(Got::Value(End::Normal))
-}
 
-fn build(
-    alloc: Global,
-    r: &Running,
-    given: &[i128],
-    b: &Build,
-    w: &mut World,
-) -> Result<Got<End>, NoMemory>
-    requires bodies { IsTrue (list_all fun_sized r.now.program.now.funs) }
-    requires initialisers { IsTrue (build_sized b.now) }
-    ensures { Ran (built (frame_in r.now) given.now b.now w.old) result w.new }
-{
-    match exec_all(b.inits.as_slice(), r, w)? {
-        Got::Value(_) => construct(alloc, r, given, b, w),
-        Got::Reverted => Ok(Got::Reverted),
-        Got::Cut => Ok(Got::Cut),
-    }
-}
-
-fn construct(
-    alloc: Global,
-    r: &Running,
-    given: &[i128],
-    b: &Build,
-    w: &mut World,
-) -> Result<Got<End>, NoMemory>
-    requires { IsTrue (list_all fun_sized r.now.program.now.funs) }
-    ensures { Ran (constructed (frame_in r.now) given.now b.now.fun b.now.args w.old) result w.new }
-{
-    match b.fun {
-        None => Ok(Got::Value(End::Normal)),
-        Some(f) => {
-            let args = build_args(alloc, given, b.args.as_slice())?;
-            construct_by(alloc, r, f, args.as_slice(), w)
+    fn construct(&self, given: &[i128], b: &Build, w: &mut World) -> Result<Got<End>, NoMemory>
+        requires runs { Makes self.now.frame.program.now self.now.frame.level (F.pre self.now.call) (F.post self.now.call) }
+        ensures { Ran (constructed (frame_in self.now.frame) given.now b.now.fun b.now.args w.old) result w.new }
+    {
+        match b.fun {
+            None => Ok(Got::Value(End::Normal)),
+            Some(f) => {
+                let args = build_args(self.alloc, given, b.args.as_slice())?;
+                self.construct_by(f, args.as_slice(), w)
+            }
         }
     }
-}
 
-fn construct_by(
-    alloc: Global,
-    r: &Running,
-    f: u32,
-    args: &[i128],
-    w: &mut World,
-) -> Result<Got<End>, NoMemory>
-    requires { IsTrue (list_all fun_sized r.now.program.now.funs) }
-    ensures { Ran (and_then ((frame_in r.now).level.call (frame_in r.now).caller (slice_get r.now.program.now.funs f) args.now w.old) (λ n. ends)) result w.new }
-{
-    match call(alloc, r, f, args, w)? {
-        Got::Value(_) => Ok(Got::Value(End::Normal)),
-        Got::Reverted => Ok(Got::Reverted),
-        Got::Cut => Ok(Got::Cut),
+    fn construct_by(&self, f: u32, args: &[i128], w: &mut World) -> Result<Got<End>, NoMemory>
+        requires runs { Makes self.now.frame.program.now self.now.frame.level (F.pre self.now.call) (F.post self.now.call) }
+        ensures { Ran (and_then ((frame_in self.now.frame).level.call (frame_in self.now.frame).caller (slice_get (frame_in self.now.frame).level.program.funs f) args.now w.old) (λ n. ends)) result w.new }
+    {
+        match self.make(f, args, w)? {
+            Got::Value(_) => Ok(Got::Value(End::Normal)),
+            Got::Reverted => Ok(Got::Reverted),
+            Got::Cut => Ok(Got::Cut),
+        }
     }
 }
 

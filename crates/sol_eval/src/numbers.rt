@@ -4,7 +4,7 @@ ghost use Rattle.std.specs.Prelude.{◌≡◌, IsTrue};
 ghost use Rattle.chc_nums.specs.Types.{judged};
 ghost use Rattle.sol_core.specs.Wrapping.{wrapped};
 ghost use Rattle.sol_meaning.specs.Frames.{number_at};
-ghost use Rattle.sol_meaning.specs.Eval.{compared, truth, is_zero};
+ghost use Rattle.sol_meaning.specs.Eval.{compared, truth, is_zero, index_in};
 ghost use Rattle.sol_eval.specs.Sized.{type_sized};
 
 use chc_nums::{Num, Op, Ty, checked_op};
@@ -60,5 +60,16 @@ pub fn number_at(all: &[i128], at: u32) -> i128
     match all.get(at as usize) {
         Some(n) => *n,
         None => 0,
+    }
+}
+
+/// An index into so many elements.
+pub fn index_in(count: usize, z: i128) -> Option<usize>
+    ensures { result ≡ index_in count z }
+{
+    if 0 <= z && z < count as i128 {
+        Some(z as usize)
+    } else {
+        None
     }
 }

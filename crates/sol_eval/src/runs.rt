@@ -2,20 +2,20 @@
 
 ghost use Rattle.std.specs.List.{list_all};
 ghost use Rattle.std.specs.Prelude.{IsTrue, IfOk, None, false, map};
-ghost use Rattle.sol_meaning.specs.Exec.{all_of, call_each, call_once, settled};
+ghost use Rattle.sol_meaning.specs.Exec.{all_of, call_each};
 ghost use Rattle.sol_meaning.specs.Calling.{level_at};
 ghost use Rattle.sol_meaning.specs.Run.{run, ran, built, deployer};
 ghost use Rattle.sol_eval.specs.Ran.{Ran};
 ghost use Rattle.sol_eval.specs.Runs.{IsRun};
 ghost use Rattle.sol_eval.specs.Sized.{fun_sized, build_sized, is_sized};
 
-use crate::calls::call_door;
-use crate::deployment::{build_all, fresh};
-use crate::frames::Running;
+use crate::calls::call;
+use crate::deployment::fresh;
+use crate::frames::{Caller, Frame, Runner};
 use crate::hits::ascending;
 use crate::outcome::Run;
 use chc_nums::{List, NoMemory};
-use sol_core::{Call, Program, Reply, Script};
+use sol_core::{Program, Reply, Script};
 use sol_meaning::{End, Got, World};
 use std::alloc::Global;
 
@@ -27,7 +27,7 @@ pub fn run(alloc: Global, p: &Program, s: &Script, turns: u32) -> Result<Run, No
 {
     let mut w = fresh(alloc, p, turns)?;
     match deploy(alloc, p, s, turns, &mut w)? {
-        Got::Value(_) => run_calls(alloc, p, turns, s.calls.as_slice(), w),
+        Got::Value(_) => run_calls(alloc, p, s, turns, w),
         Got::Reverted => undeployed(w, false),
         Got::Cut => undeployed(w, true),
     }
@@ -45,14 +45,18 @@ fn deploy(
     ensures { Ran (all_of (map (built (deployer p.now s.now.sender turns) s.now.args) p.now.builds) w.old) result w.new }
 {
     let none: List<Reply> = List::new(alloc);
-    let r = Running {
-        program: p,
-        level: turns,
+    let deployer = Caller {
         sender: s.sender,
         is_static: false,
         replies: none.as_slice(),
     };
-    build_all(alloc, &r, s.args.as_slice(), p.builds.as_slice(), w)
+    let frame = Frame {
+        program: p,
+        level: turns,
+        caller: &deployer,
+    };
+    let runner = Runner { alloc, frame, call };
+    runner.build_all(s.args.as_slice(), p.builds.as_slice(), w)
 }
 
 fn undeployed(w: World, cut: bool) -> Result<Run, NoMemory>
@@ -66,18 +70,24 @@ fn undeployed(w: World, cut: bool) -> Result<Run, NoMemory>
     })
 }
 
-fn run_calls(
-    alloc: Global,
-    p: &Program,
-    level: u32,
-    calls: &[Call],
-    w: World,
-) -> Result<Run, NoMemory>
+fn run_calls(alloc: Global, p: &Program, s: &Script, turns: u32, w: World) -> Result<Run, NoMemory>
     requires { IsTrue (list_all fun_sized p.now.funs) }
-    ensures { IfOk result (λ r. IsRun (ran (call_each (level_at p.now level) false calls.now w)) r) }
+    ensures { IfOk result (λ r. IsRun (ran (call_each (level_at p.now turns) false s.now.calls w)) r) }
 {
     let mut w = w;
-    let cut = call_each(alloc, p, level, calls, &mut w)?;
+    let none: List<Reply> = List::new(alloc);
+    let deployer = Caller {
+        sender: s.sender,
+        is_static: false,
+        replies: none.as_slice(),
+    };
+    let frame = Frame {
+        program: p,
+        level: turns,
+        caller: &deployer,
+    };
+    let runner = Runner { alloc, frame, call };
+    let cut = runner.call_each(false, s.calls.as_slice(), &mut w)?;
     ended(w, cut)
 }
 
@@ -90,67 +100,4 @@ fn ended(w: World, cut: bool) -> Result<Run, NoMemory>
         hits: ascending(hits)?,
         cut,
     })
-}
-
-// Calls one after another, until the run is cut: whether it was.
-fn call_each(
-    alloc: Global,
-    p: &Program,
-    level: u32,
-    calls: &[Call],
-    w: &mut World,
-) -> Result<bool, NoMemory>
-    requires { IsTrue (list_all fun_sized p.now.funs) }
-    ensures { Ran (call_each (level_at p.now level) false calls.now w.old) result w.new }
-{
-    for c in calls {
-        if call_once(alloc, p, level, c, w)? {
-            return Ok(true);
-        }
-    }
-    Ok(false)
-}
-
-// Only scalars are ever written, so they alone are kept for a revert.
-#[tactic(auto, using(crate::proofs::Restored::restored))]
-fn call_once(
-    alloc: Global,
-    p: &Program,
-    level: u32,
-    c: &Call,
-    w: &mut World,
-) -> Result<bool, NoMemory>
-    requires { IsTrue (list_all fun_sized p.now.funs) }
-    ensures { Ran (call_once (level_at p.now level) false c.now w.old) result w.new }
-{
-    let before = w.state.scalars.copy(alloc)?;
-    let taken = w.taken;
-    w.taken = 0;
-    let r = Running {
-        program: p,
-        level,
-        sender: c.sender,
-        is_static: false,
-        replies: c.replies.as_slice(),
-    };
-    let got = call_door(alloc, &r, c.fun, c.args.as_slice(), w)?;
-    w.taken = taken;
-    settle(before, got, w)
-}
-
-fn settle(before: List<i128>, got: Got<i128>, w: &mut World) -> Result<bool, NoMemory>
-    ensures { Ran (settled false (record w.old { state = record w.old.state { scalars = before } }) (got, w.old)) result w.new }
-{
-    match got {
-        Got::Value(_) => Ok(false),
-        Got::Reverted => undo(before, false, w),
-        Got::Cut => undo(before, true, w),
-    }
-}
-
-fn undo(before: List<i128>, cut: bool, w: &mut World) -> Result<bool, NoMemory>
-    ensures { Ran (cut, record w.old { state = record w.old.state { scalars = before } }) result w.new }
-{
-    w.state.scalars = before;
-    Ok(cut)
 }
