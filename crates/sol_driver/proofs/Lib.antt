@@ -4,3 +4,4 @@ pub mod Findings
 pub mod Outcomes
 pub mod Numbers
 pub mod Exactly
+pub mod Programs

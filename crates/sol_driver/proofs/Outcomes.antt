@@ -1,5 +1,7 @@
 -- What was found and told ends as it should.
 use Rattle.std.proofs.Common.{ℕ, List, Option, Some, None, Result, Ok, Err}
+use Rattle.std.specs.List.{concat}
+use Rattle.sol_replay.specs.declared.shown.Replayed.{Replayed}
 use Rattle.sol_outside.specs.declared.SinkFault.{SinkFault}
 use Rattle.sol_outside.specs.declared.SinkFault.TheVariants as sink
 use Rattle.sol_outside.specs.Causes.{AppendedPart, Puts}
@@ -12,7 +14,7 @@ use Rattle.sol_driver.specs.declared.find.Finding.TheVariants as finding
 use Rattle.sol_driver.specs.Ends.{Asked, Told, Found, ToldWithoutMemory, before, within, Ends}
 use Rattle.sol_driver.specs.Findings.{IsFinding}
 use Rattle.sol_driver.specs.Outcomes.{TellsText, whole, part, stopped, without_memory}
-use Rattle.sol_driver.specs.Texts.{status_of, status_line}
+use Rattle.sol_driver.specs.Texts.{status_of, status_line, replay_line, replay_status}
 use Rattle.sol_outside.proofs.Writing.{appended-nothing}
 use Rattle.sol_driver.proofs.Writing.{appended-whole}
 
@@ -32,6 +34,7 @@ found-ends a t status.Source r text _ f (whole good w) = record { text = text; f
 found-ends a t status.Words r text _ f (whole good w) = record { text = text; found = f; written = w; good = good }
 found-ends a t status.ReadFault r text _ f (whole good w) = record { text = text; found = f; written = w; good = good }
 found-ends a t status.TooLong r text _ f (whole good w) = record { text = text; found = f; written = w; good = good }
+found-ends a t status.Script r text _ f (whole good w) = record { text = text; found = f; written = w; good = good }
 found-ends a t status.WriteFault r text _ f (whole good w) = absurd f
 found-ends a t status.NoMemory r text _ f (whole good w) = absurd f
 found-ends a t s r text _ f (part rose w) = record { status = s; text = text; found = f; written = w; rose = rose }
@@ -47,4 +50,10 @@ refused-ends a t line o f w = found-ends a t status.Source None line o f w
 pub report-ends : (a : Asked) (t : Told) (r : Report) (o : Outcome) → IsFinding a (finding.Checked r) → TellsText (status_of r.verdicts) (Some r) (text_of r) t o → Ends a t o
 report-ends a t r o f w = found-ends a t (status_of r.verdicts) (Some r) (text_of r) o f w
 
-pub ruleset outcomes = (line-ends, refused-ends, report-ends, stopped, without_memory, whole, part, before)
+pub listing-ends : (a : Asked) (t : Told) (lines : List (List ℕ)) (o : Outcome) → IsFinding a (finding.Listed lines) → TellsText status.Good None (concat lines) t o → Ends a t o
+listing-ends a t lines o f w = found-ends a t status.Good None (concat lines) o f w
+
+pub shown-ends : (a : Asked) (t : Told) (r : Replayed) (o : Outcome) → IsFinding a (finding.Shown r) → TellsText (replay_status r) None (replay_line r) t o → Ends a t o
+shown-ends a t r o f w = found-ends a t (replay_status r) None (replay_line r) o f w
+
+pub ruleset outcomes = (line-ends, refused-ends, report-ends, listing-ends, shown-ends, stopped, without_memory, whole, part, before)

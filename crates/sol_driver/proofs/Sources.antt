@@ -14,10 +14,8 @@ use Rattle.sol_names.specs.declared.Lineage.{Lineage}
 use Rattle.sol_names.specs.Orders.{Orders}
 use Rattle.sol_first.specs.declared.Contract.{Contract}
 use Rattle.sol_reader.specs.Language.{IsFirst}
-use Rattle.sol_report.specs.declared.Report.{Report}
-use Rattle.sol_check.specs.Reports.{IsReportOf}
 use Rattle.sol_driver.specs.Refusals.{HasTree, HasNoTree, HasNoLineage}
-use Rattle.sol_driver.specs.Stands.{Stands}
+use Rattle.sol_driver.specs.Stands.{HasContract}
 
 token-one : (at n : ℕ) (k : Option TokenKind) → length (token_of at n k) ≤ 1
 token-one at n None = omega arith
@@ -40,12 +38,12 @@ has-no_tree text ts at t h = record { tokens = ts; tokenizes = t; none = h.0; pl
 
 pub ruleset sources = (tokens-few, has-tree, has-no_tree)
 
-pub report_stands : (text : List ℕ) (f : File) (l : Lineage) (c : Contract) (r : Report) → HasTree text f → Orders f.units None (Ok l) → IsFirst text f c → IsReportOf c r → Stands text r
-report_stands text f l c r source ordered first right = record { file = f; source = source; lineage = l; ordered = ordered; contract = c; first = first; report = right }
+pub has_contract : (name : Option (List ℕ)) (text : List ℕ) (f : File) (l : Lineage) (c : Contract) → HasTree text f → Orders f.units name (Ok l) → IsFirst text f c → HasContract name text c
+has_contract name text f l c source ordered first = record { file = f; source = source; lineage = l; ordered = ordered; first = first }
 
-pub ruleset reports = (report_stands)
+pub ruleset contracts = (has_contract)
 
-pub no_lineage : (text : List ℕ) (f : File) (e : NameFault) → HasTree text f → Orders f.units None (Err e) → e ≢ naming.NoMemory → HasNoLineage text e
-no_lineage text f e source cause told = record { file = f; source = source; cause = cause; told = told }
+pub no_lineage : (name : Option (List ℕ)) (text : List ℕ) (f : File) (e : NameFault) → HasTree text f → Orders f.units name (Err e) → e ≢ naming.NoMemory → HasNoLineage name text e
+no_lineage name text f e source cause told = record { file = f; source = source; cause = cause; told = told }
 
 pub ruleset orders = (no_lineage)

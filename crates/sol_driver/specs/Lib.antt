@@ -1,4 +1,3 @@
-pub mod Command
 pub mod Refusals
 pub mod Stands
 pub mod Texts

@@ -23,7 +23,7 @@ asks_usage (w ∷ v ∷ rest) = false
 
 -- how the program is used
 abbrev pub usage : List ℕ
-usage = codes "usage: solchc check FILE\nIt prints a line for each target of the contract in FILE: safe, unsafe or unknown.\nExit status: 0 all safe, 1 some unsafe, 2 some unknown, 3 text refused, 4 words refused,\n5 read fault, 6 write fault, 7 no memory, 8 file too long.\n"
+usage = codes "usage: solchc check FILE [--contract NAME]\n       solchc targets FILE [--contract NAME]\n       solchc replay FILE SCRIPT LINE:COLUMN:KIND [--contract NAME]\ncheck prints a line for each target of the contract in FILE: safe, unsafe or unknown; targets prints where they\nstand; replay says whether the calls in SCRIPT violate a target.\nExit status: 0 all safe, or listed, or violated; 1 some unsafe, 2 some unknown, 3 text refused, 4 words refused,\n5 read fault, 6 write fault, 7 no memory, 8 file too long, 9 no target, script refused or not violated.\n"
 
 abbrev pub usage_for : List (String Global) → List ℕ
 usage_for words = if asks_usage words then usage else []

@@ -1,5 +1,5 @@
 -- Why a text is refused, and the line that says so.
-use Rattle.std.specs.Prelude.{◌≡◌, ◌≢◌, ℕ, List, [], ◌++◌, take, drop, codes, decimal, None, Ok, Err}
+use Rattle.std.specs.Prelude.{◌≡◌, ◌≢◌, ℕ, List, [], ◌++◌, take, drop, codes, decimal, Option, Ok, Err}
 use Rattle.sol_tree.specs.declared.token.Token.{Token}
 use Rattle.sol_tree.specs.declared.file.File.{File}
 use Rattle.sol_lexer.specs.declared.lexer.LexFault.{LexFault}
@@ -32,26 +32,27 @@ pub record HasNoTree (text : List ℕ) (at : ℕ) : Type 0 where
   pub none : (file : File) → IsTree file tokens → ⊥
   pub place : IsPlace at tokens
 
--- the text has a tree, of which no contract is to be checked, or one without a linearization, for this cause
-pub record HasNoLineage (text : List ℕ) (fault : NameFault) : Type 0 where
+-- the text has a tree, of which no contract is to be checked, or one without a linearization, for this cause; the contract
+-- is the named one, or else the last
+pub record HasNoLineage (name : Option (List ℕ)) (text : List ℕ) (fault : NameFault) : Type 0 where
   pub file : File
   pub source : HasTree text file
-  pub cause : Orders file.units None (Err fault)
+  pub cause : Orders file.units name (Err fault)
   pub told : fault ≢ naming.NoMemory
 
 -- the text has a tree, and a contract to check; but the tree is that of no contract of the first language
-pub record IsNotBuilt (text : List ℕ) : Type 0 where
+pub record IsNotBuilt (name : Option (List ℕ)) (text : List ℕ) : Type 0 where
   pub file : File
   pub source : HasTree text file
   pub lineage : Lineage
-  pub ordered : Orders file.units None (Ok lineage)
+  pub ordered : Orders file.units name (Ok lineage)
   pub foreign : (c : Contract) → IsFirst text file c → ⊥
 
-abbrev pub IsRefused : List ℕ → Refusal → Type 0
-IsRefused text (refusal.Lexical f) = LexicalFault text f
-IsRefused text (refusal.NoTree at) = HasNoTree text at
-IsRefused text (refusal.Naming f) = HasNoLineage text f
-IsRefused text refusal.NotBuilt = IsNotBuilt text
+abbrev pub IsRefused : Option (List ℕ) → List ℕ → Refusal → Type 0
+IsRefused name text (refusal.Lexical f) = LexicalFault text f
+IsRefused name text (refusal.NoTree at) = HasNoTree text at
+IsRefused name text (refusal.Naming f) = HasNoLineage name text f
+IsRefused name text refusal.NotBuilt = IsNotBuilt name text
 
 -- ---- lines
 
@@ -91,7 +92,7 @@ refusal_line text (refusal.Naming f) = naming_line text f
 refusal_line text refusal.NotBuilt = codes "refused not-built\n"
 
 -- the line tells a cause for which the text is refused
-pub record IsRefusedWith (text : List ℕ) (line : List ℕ) : Type 0 where
+pub record IsRefusedWith (name : Option (List ℕ)) (text : List ℕ) (line : List ℕ) : Type 0 where
   pub refusal : Refusal
-  pub cause : IsRefused text refusal
+  pub cause : IsRefused name text refusal
   pub line_is : line ≡ refusal_line text refusal

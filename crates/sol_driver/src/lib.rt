@@ -1,15 +1,15 @@
 //! The top calls: from the words of the command line and the bytes of a file to the report and the bytes written.
 //! The statement to believe is the clause of `run_alone` and `run_main`, `Ends` in `specs/Ends.antt`; what a report says of
-//! a text is `Stands` in `specs/Stands.antt`.
+//! a text is `Stands` in `specs/Stands.antt`, and what a script shows of a target `Replays` of `sol_replay`.
 #![tactic(auto)]
 
-mod check;
-mod command;
+mod contract;
 mod find;
 mod laws;
 mod outcome;
 mod program;
 mod refusal;
+mod replay;
 mod tell;
 mod top;
 

@@ -6,7 +6,8 @@ ghost use Rattle.sol_driver.specs.Texts.{is_unsafe, is_unknown, some_verdict, st
 use sol_report::{Report, Verdict};
 
 /// How a command ends: every target is safe, some is unsafe, none is unsafe and some unknown, the source or the words
-/// are refused, a read or a write failed, memory was wanting, or the file holds more than 262,144 bytes.
+/// are refused, a read or a write failed, memory was wanting, a file holds more than 262,144 bytes, or a script shows no
+/// violation. `Good` is also that of a list of targets, and of a script that violates its target.
 #[derive(Clone, Copy, Debug, PartialEq, Eq)]
 pub enum Status {
     Good,
@@ -18,6 +19,7 @@ pub enum Status {
     WriteFault,
     NoMemory,
     TooLong,
+    Script,
 }
 
 /// The status of a command, and its report where there is one.
@@ -41,6 +43,7 @@ pub fn code(status: Status) -> u8
         Status::WriteFault => 6,
         Status::NoMemory => 7,
         Status::TooLong => 8,
+        Status::Script => 9,
     }
 }
 
@@ -81,7 +84,8 @@ pub fn status_of(verdicts: &[(u32, Verdict)]) -> Status
     }
 }
 
-/// The one line of a status that has no report. That of a refused source tells its cause, and isn't given here.
+/// The one line of a status that has no report. Those of a refused source and of a replay tell the cause, and aren't given
+/// here.
 pub fn status_line(status: Status) -> &'static [u8]
     ensures { result.now ≡ status_line status }
 {
@@ -90,7 +94,11 @@ pub fn status_line(status: Status) -> &'static [u8]
         Status::ReadFault => b"read fault\n",
         Status::NoMemory => b"no memory\n",
         Status::TooLong => b"file too long\n",
-        Status::Good | Status::Unsafe | Status::Unknown | Status::Source | Status::WriteFault =>
-            b"",
+        Status::Good
+        | Status::Unsafe
+        | Status::Unknown
+        | Status::Source
+        | Status::WriteFault
+        | Status::Script => b"",
     }
 }

@@ -1,6 +1,7 @@
 // The top calls.
 
 ghost use Rattle.std.specs.Prelude.{◌≡◌, Some, None};
+ghost use Rattle.std.specs.List.{concat};
 ghost use Rattle.sol_driver.specs.Ends.{Ends, asked, told};
 ghost use Rattle.sol_driver.specs.Outcomes.{TellsText};
 ghost use Rattle.sol_outside.specs.Causes.{AppendedPart};
@@ -9,7 +10,9 @@ ghost use Rattle.sol_driver.specs.Texts.{status_line, status_of as the_status};
 
 use crate::find::{Finding, find};
 use crate::outcome::{Outcome, Status, status_line, status_of};
+use crate::replay::{replay_line, replay_status};
 use crate::tell::tell;
+use chc_nums::Name;
 use sol_outside::{Gate, Shelf, Sink, SinkFault};
 use sol_report::{Report, lines};
 use std::alloc::Global;
@@ -69,8 +72,27 @@ fn tell_report<K: Sink>(alloc: Global, report: Report, out: &mut K) -> Outcome
     }
 }
 
-/// Does what the words ask, and waits for nobody: `check FILE` reads the file and prints its report, a line for each
-/// target and one that counts them; any other words are refused.
+// The list of the targets.
+#[tactic(auto, using(crate::proofs::Outcomes::outcomes))]
+fn tell_listing<K: Sink>(lines: &[Name], out: &mut K) -> Outcome
+    ensures { TellsText Status.Good None (concat lines.now) (told (K.written out.old) (K.written out.new) (K.faults out.old) (K.faults out.new)) result }
+{
+    match tell(lines, out) {
+        Ok(()) => Outcome {
+            status: Status::Good,
+            report: None,
+        },
+        Err(SinkFault::Failed) => Outcome {
+            status: Status::WriteFault,
+            report: None,
+        },
+        Err(SinkFault::NoMemory) => without_memory(None, out),
+    }
+}
+
+/// Does what the words ask, and waits for nobody. `check FILE` reads the file and prints its report, a line for each target
+/// and one that counts them; `targets FILE` lists the targets; `replay FILE SCRIPT TARGET` says whether the calls in SCRIPT
+/// violate the target. `--contract NAME` names the contract. Any other words are refused.
 #[tactic(auto, using(crate::proofs::Outcomes::outcomes))]
 pub fn run_alone<F: Shelf, K: Sink>(
     alloc: Global,
@@ -84,6 +106,8 @@ pub fn run_alone<F: Shelf, K: Sink>(
         Ok(Finding::Line(status)) => tell_line(status, status_line(status), out),
         Ok(Finding::Refused(line)) => tell_line(Status::Source, line.as_slice(), out),
         Ok(Finding::Checked(report)) => tell_report(alloc, report, out),
+        Ok(Finding::Listed(lines)) => tell_listing(lines.as_slice(), out),
+        Ok(Finding::Shown(shown)) => tell_line(replay_status(shown), replay_line(shown), out),
         Err(_) => without_memory(None, out),
     }
 }

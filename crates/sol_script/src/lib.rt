@@ -12,7 +12,9 @@ mod reading;
 mod text;
 mod words;
 
+pub use cuts::cut;
 pub use fault::ScriptTextFault;
 pub use laws::text_law;
+pub use line::number;
 pub use reader::read;
 pub use text::{lines, print};

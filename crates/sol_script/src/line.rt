@@ -30,9 +30,9 @@ fn is_word(word: &[u8], other: &str) -> bool
     word == other.as_bytes()
 }
 
-// The number that a word spells.
+/// The number that a word spells: decimal, with `-` before a negative one and without leading zeros, in 128 bits.
 #[tactic(auto, using(crate::proofs::Numbers::unread_words))]
-fn number(word: &[u8]) -> Option<i128>
+pub fn number(word: &[u8]) -> Option<i128>
     ensures { result ≡ number word.now }
 {
     match str::from_utf8(word) {

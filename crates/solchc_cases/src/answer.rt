@@ -53,6 +53,8 @@ pub fn exact_status(answer: &str) -> Option<u8> {
         "read fault" => Some(5),
         "no memory" => Some(7),
         "file too long" => Some(8),
+        "violated" => Some(0),
+        "not violated" | "script refused" | "no target" => Some(9),
         _ => {
             if is_last_of_report(last) {
                 Some(report_status(last))

@@ -93,9 +93,8 @@ fn status_of(record: &Record<'_>, kind: Kind, first: &str) -> u8 {
         return 6;
     }
     match kind {
-        Kind::Replay => if first == "violated\n" { 0 } else { 9 },
         Kind::Targets | Kind::Facts => 0,
-        Kind::Exact => exact_status(first).unwrap_or(0),
+        Kind::Replay | Kind::Exact => exact_status(first).unwrap_or(0),
     }
 }
 

@@ -1,0 +1,3 @@
+pub mod Target
+pub mod Arguments
+pub mod Request
