@@ -1,6 +1,7 @@
 -- Lists of passes.
-use Rattle.std.proofs.Common.{◌≡◌, ℕ, zero, suc, ◌+◌, ◌-◌, ◌≤◌, List, [], ◌∷◌, ◌++◌, map, length, drop, sym, refl, ap, ◌∙◌, subst, append_assoc, append-nil, add-zero, arith, Option}
-use Rattle.std.specs.Prelude.{IsSomeAnd}
+use Rattle.std.proofs.Common.{◌≡◌, ℕ, zero, suc, ◌+◌, ◌-◌, ◌≤◌, List, [], ◌∷◌, ◌++◌, map, length, drop, sym, refl, ap, ◌∙◌, subst, append_assoc, append-nil, add-zero, arith, Option, Some}
+use Rattle.std.specs.Prelude.{IsSomeAnd, All as Each}
+use Rattle.std.proofs.lemmas.List.Elements.{All-nil, All-cons}
 use Rattle.atomic_table.specs.Table.{Me}
 use Rattle.atomic_table.specs.Seated.{TableId}
 use Rattle.pool_lock.specs.declared.view.Known.{Known}
@@ -12,7 +13,7 @@ use Rattle.pool_lock.specs.Entries.{StartsWith, AllBelow}
 use Rattle.pool_lock.specs.Weights.{weigh, AreBelow}
 use Rattle.pool_lock.specs.Views.{passing, view_of, fresh, fresh_from, number_of, opened_in, seen_in}
 use Rattle.pool_lock.specs.Told.{KnowsEach, Knows, first_of, rest_of, both_of}
-use Rattle.pool_lock.specs.Calls.{IsPassOf, numbers_of, ArePassesOf, AreFresh, StandsIn, AllStandIn}
+use Rattle.pool_lock.specs.Calls.{IsPassOf, numbers_of, ArePassesOf, IsOurs, IsFresh, AreFresh, StandsIn, AllStandIn}
 use Rattle.pool_lock.specs.Gathered.{passes_in}
 use Rattle.pool_lock.proofs.Closing.{All}
 
@@ -92,6 +93,16 @@ module _ {X R T : Type 0} where
   spread-one id o ps qs p k h e count number own me =
       let place : k ≡ 0 + length ps = omega arith in
       subst (AreFresh id o 0) (sym e) (fresh-append id o 0 ps (p ∷ []) h (subst (λ (j : ℕ). AreFresh id o j (p ∷ [])) place ((number, own, me), tt)))
+
+  -- fresh passes, as one statement on each
+  pub all-fresh : (id : TableId) (o : Opened X R) (k : ℕ) (ps : List (NumberedSeat T X R)) → AreFresh id (Some o) k ps → Each (IsFresh id) ps
+  all-fresh id o k [] h = All-nil (IsFresh id)
+  all-fresh id o k (p ∷ ps) h = All-cons (IsFresh id) p ps (h.0.1, o, h.0.2 ∙ ap (λ (j : ℕ). (passing (fresh (Some o) j) Idle, [])) (sym h.0.0)) (all-fresh id o (k + 1) ps h.1)
+
+  -- passes of a lock, by one statement on each
+  pub all-ours : (id : TableId) (ps : List (NumberedSeat T X R)) → Each (IsOurs id) ps → ArePassesOf id ps
+  all-ours id [] h = tt
+  all-ours id (p ∷ ps) h = (h 0 p (omega arith), all-ours id ps (λ k d below. h (suc k) d (omega arith)))
 
   -- a fresh pass has seen nothing
   pub seen-none : (o : Option (Opened X R)) (k : ℕ) (m : Me (Option T) (View X R)) → m ≡ (passing (fresh o k) Idle, []) → 0 ≡ length (seen_in m.0)

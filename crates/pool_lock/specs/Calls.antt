@@ -1,5 +1,5 @@
 -- What the calls of the lock say of passes.
-use Rattle.std.specs.Prelude.{◌≡◌, ℕ, ◌+◌, List, [], ◌∷◌, ◌++◌, length, drop, Option, IfSome, IsSomeAnd}
+use Rattle.std.specs.Prelude.{◌≡◌, ℕ, ◌+◌, List, [], ◌∷◌, ◌++◌, length, drop, Option, Some, IfSome, IsSomeAnd}
 use Rattle.atomic_table.specs.declared.shared.Seat.{Seat}
 use Rattle.atomic_table.specs.Seated.{TableId}
 use Rattle.pool_lock.specs.declared.view.Known.{Known}
@@ -60,6 +60,14 @@ module _ {X R : Type 0} where
     abbrev pub ArePassesOf : TableId → List (NumberedSeat T X R) → Type 0
     ArePassesOf id [] = Unit {0}
     ArePassesOf id (p ∷ ps) = IsPassOf id p.number p.seat × ArePassesOf id ps
+
+    -- it is a pass of this lock, between two calls
+    abbrev pub IsOurs : TableId → NumberedSeat T X R → Type 0
+    IsOurs id p = IsPassOf id p.number p.seat
+
+    -- it is a pass of this lock, which has called nothing yet
+    abbrev pub IsFresh : TableId → NumberedSeat T X R → Type 0
+    IsFresh id p = (p.seat.table_id ≡ id) × (o : Opened X R) × (p.seat.me ≡ (passing (fresh (Some o) p.number) Idle, []))
 
     -- they are fresh passes of this lock, numbered in order from one number on
     abbrev pub AreFresh : TableId → Option (Opened X R) → ℕ → List (NumberedSeat T X R) → Type 0

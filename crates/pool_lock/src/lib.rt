@@ -11,6 +11,7 @@ mod ends;
 mod growing;
 mod lock;
 mod pass;
+mod pauses;
 mod plays;
 mod seats;
 mod view;

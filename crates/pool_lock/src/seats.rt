@@ -10,8 +10,8 @@ ghost use Rattle.pool_lock.specs.Sections.{IsWaiting, IsTurn, IsServed, MayRetur
 use crate::growing::Growing;
 use crate::lock::PoolLock;
 use crate::pass::SeatOf;
+use crate::pauses::pause;
 use crate::plays::{Draw, Look, PassOn, Publish, Turn};
-use crossbeam_utils::Backoff;
 use std::sync::Wait;
 
 impl<T: Growing> PoolLock<T> {
@@ -31,13 +31,13 @@ impl<T: Growing> PoolLock<T> {
         ensures own { (seat.new.table_id ≡ seat.old.table_id) × (seat.new.id ≡ seat.old.id) }
         ensures served { IsTurn T.list T.root seat.old.me seat.new.me }
     {
-        let backoff = Backoff::new();
+        let mut spins = 0;
         for _turn in rt.forever() {
             let found = self.table.shared.load::<Turn>(seat, 1);
             if found == ticket {
                 return;
             }
-            backoff.snooze();
+            pause(ticket.wrapping_sub(found), &mut spins);
         }
         unreachable!()
     }
