@@ -7,6 +7,8 @@ mod ask;
 #[cfg(test)]
 mod cert;
 #[cfg(test)]
+mod claims;
+#[cfg(test)]
 mod core_events;
 #[cfg(test)]
 mod counter;
@@ -20,6 +22,8 @@ mod nums;
 mod pool;
 #[cfg(test)]
 mod reduce;
+#[cfg(test)]
+mod shared_pool;
 #[cfg(test)]
 mod simplex;
 #[cfg(test)]

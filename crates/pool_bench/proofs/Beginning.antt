@@ -1,11 +1,10 @@
 -- A pass that has called nothing has seen nothing.
-use Rattle.std.proofs.Common.{◌≡◌, ℕ, List, length, refl, sym, subst, Option, Some, []}
+use Rattle.std.proofs.Common.{◌≡◌, ℕ, List, length, refl, sym, subst, Option, Some}
 use Rattle.atomic_table.specs.Table.{Me}
 use Rattle.atomic_table.specs.Seated.{TableId}
 use Rattle.pool_lock.specs.declared.pass.NumberedSeat.{NumberedSeat}
-use Rattle.pool_lock.specs.declared.view.Phase.TheVariants.{Idle}
 use Rattle.pool_lock.specs.declared.view.View.{View}
-use Rattle.pool_lock.specs.Views.{fresh, passing}
+use Rattle.pool_lock.specs.Views.{fresh}
 use Rattle.pool_lock.specs.Calls.{IsOurs, IsFresh, HasCopies}
 
 module _ {T X R : Type 0} where

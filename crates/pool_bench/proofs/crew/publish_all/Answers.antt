@@ -1,5 +1,5 @@
 use Rattle.std.proofs.Common.{ℕ, ◌<◌, sym, subst}
-use Rattle.pool_lock.specs.Calls.{IsFresh, IsOurs}
+use Rattle.pool_lock.specs.Calls.{IsOurs}
 use Rattle.pool_bench.proofs.crew.publish_all.Goals as goal
 
 pub for_each_mut-requires-clause-accepts : goal.for_each_mut-requires-clause-accepts

@@ -1,4 +1,4 @@
-use Rattle.std.proofs.Common.{◌≡◌, sym, subst, ℕ, List, take, drop, ◌++◌, length, arith, All}
+use Rattle.std.proofs.Common.{◌≡◌, sym, subst, ℕ, take, drop, ◌++◌, length, arith, All}
 use Rattle.std.proofs.Math.Seq.{take-append_seam}
 use Rattle.pool_lock.specs.Calls.{IsFresh, ArePassesOf}
 use Rattle.pool_lock.proofs.Passes.{all-fresh, all-ours}
