@@ -1,13 +1,11 @@
 // What assignments write.
 
-ghost use Rattle.std.specs.Prelude.{◌≡◌, IsTrue};
-ghost use Rattle.sol_meaning.specs.Frames.{and_then};
-ghost use Rattle.sol_meaning.specs.Eval.{eval, at_index, index_in};
-ghost use Rattle.sol_meaning.specs.Exec.{located, held, stored, assigned, given};
+ghost use Rattle.std.specs.Prelude.{◌≡◌, IsTrue, length};
 ghost use Rattle.sol_meaning.specs.declared.world.Got.TheVariants as got;
 ghost use Rattle.sol_meaning.specs.declared.world.Spot.TheVariants as spot;
-ghost use Rattle.std.specs.Prelude.{length};
-ghost use Rattle.sol_meaning.specs.Frames.{array_at};
+ghost use Rattle.sol_meaning.specs.Frames.{and_then, array_at};
+ghost use Rattle.sol_meaning.specs.Eval.{eval, at_index, index_in};
+ghost use Rattle.sol_meaning.specs.Exec.{located, held, stored, assigned, given};
 ghost use Rattle.sol_eval.specs.Ran.{Ran, Kept};
 ghost use Rattle.sol_eval.specs.Framed.{frame_in};
 ghost use Rattle.sol_eval.specs.Makes.{Makes};
