@@ -1,7 +1,10 @@
+pub mod Written
 pub mod Filled
 pub mod Firsts
 pub mod Levels
 pub mod Loops
+pub mod Ranges
 pub mod Restored
 pub mod Sizes
 pub mod Weights
+pub mod Wrapped

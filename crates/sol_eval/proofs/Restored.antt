@@ -1,13 +1,13 @@
--- A call from outside that changed scalars, turns and hits alone, settled with the scalars from before it.
-use Rattle.std.proofs.Common.{◌≡◌, List, false, refl}
+-- A call from outside that left the mappings as they were, settled with the scalars and the arrays from before it.
+use Rattle.std.proofs.Common.{◌≡◌, Bool, List, refl}
 use lib.IntN.{ℤ}
 use Rattle.sol_meaning.specs.declared.World.{World}
 use Rattle.sol_meaning.specs.declared.Got.{Got}
 use Rattle.sol_meaning.specs.declared.Got.TheVariants as got
 use Rattle.sol_meaning.specs.Exec.{settled}
 
-pub restored : (old after : World) (z : Got ℤ) (s : List ℤ) → s ≡ old.state.scalars → after.state.maps ≡ old.state.maps → after.state.arrays ≡ old.state.arrays → after.locals ≡ old.locals
-    → settled false old (z, after) ≡ settled false (record after { taken = old.taken; state = record after.state { scalars = s } }) (z, record after { taken = old.taken })
-restored old after (got.Value n) s e m a l = rw l refl
-restored old after got.Reverted s e m a l = rw (e, m, a, l) refl
-restored old after got.Cut s e m a l = rw (e, m, a, l) refl
+pub restored : (static : Bool) (old after : World) (z : Got ℤ) (s : List ℤ) (a : List (List ℤ)) → s ≡ old.state.scalars → a ≡ old.state.arrays → after.state.maps ≡ old.state.maps → after.locals ≡ old.locals
+    → settled static old (z, after) ≡ settled static (record after { taken = old.taken; state = record after.state { scalars = s; arrays = a } }) (z, record after { taken = old.taken })
+restored static old after (got.Value n) s a e r m l = rw (e, r, m, l) refl
+restored static old after got.Reverted s a e r m l = rw (e, r, m, l) refl
+restored static old after got.Cut s a e r m l = rw (e, r, m, l) refl

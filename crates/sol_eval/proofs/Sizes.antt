@@ -64,7 +64,7 @@ pub sized-Len : (a : ℕ) → expr_sized (Len a) ≡ true
 unfolding expr_sized
 sized-Len a = ap (λ (z : Expr). fold-Expr Bool expr_layer z) (sym (expression.rolls-Len a)) ∙ fold-roll-Expr Bool expr_layer (Expr-F.Len a)
 
-pub sized-Arith : (o : Op) (t : Ty) (c : Bool) (a b : Expr) (m : PanicSites) → expr_sized (Arith o t c a b m) ≡ (c && (type_sized t && (expr_sized a && expr_sized b)))
+pub sized-Arith : (o : Op) (t : Ty) (c : Bool) (a b : Expr) (m : PanicSites) → expr_sized (Arith o t c a b m) ≡ (type_sized t && (expr_sized a && expr_sized b))
 unfolding expr_sized
 sized-Arith o t c a b m = ap (λ (z : Expr). fold-Expr Bool expr_layer z) (sym (expression.rolls-Arith o t c a b m)) ∙ fold-roll-Expr Bool expr_layer (Expr-F.Arith o t c a b m)
 
@@ -100,19 +100,19 @@ pub sized-Set : (p : Place) (e : Expr) → stmt_sized (Set p e) ≡ (place_sized
 unfolding stmt_sized
 sized-Set p e = ap (λ (z : Stmt). fold-Stmt Bool stmt_layer z) (sym (statement.rolls-Set p e)) ∙ fold-roll-Stmt Bool stmt_layer (Stmt-F.Set p e)
 
-pub sized-Step : (p : Place) (o : Op) (t : Ty) (c : Bool) (e : Expr) (m : PanicSites) → stmt_sized (Step p o t c e m) ≡ false
+pub sized-Step : (p : Place) (o : Op) (t : Ty) (c : Bool) (e : Expr) (m : PanicSites) → stmt_sized (Step p o t c e m) ≡ (place_sized p && (type_sized t && expr_sized e))
 unfolding stmt_sized
 sized-Step p o t c e m = ap (λ (z : Stmt). fold-Stmt Bool stmt_layer z) (sym (statement.rolls-Step p o t c e m)) ∙ fold-roll-Stmt Bool stmt_layer (Stmt-F.Step p o t c e m)
 
-pub sized-Push : (a : ℕ) (e : Expr) → stmt_sized (Push a e) ≡ false
+pub sized-Push : (a : ℕ) (e : Expr) → stmt_sized (Push a e) ≡ expr_sized e
 unfolding stmt_sized
 sized-Push a e = ap (λ (z : Stmt). fold-Stmt Bool stmt_layer z) (sym (statement.rolls-Push a e)) ∙ fold-roll-Stmt Bool stmt_layer (Stmt-F.Push a e)
 
-pub sized-Pop : (a : ℕ) (site : ℕ) → stmt_sized (Pop a site) ≡ false
+pub sized-Pop : (a : ℕ) (site : ℕ) → stmt_sized (Pop a site) ≡ true
 unfolding stmt_sized
 sized-Pop a site = ap (λ (z : Stmt). fold-Stmt Bool stmt_layer z) (sym (statement.rolls-Pop a site)) ∙ fold-roll-Stmt Bool stmt_layer (Stmt-F.Pop a site)
 
-pub sized-Clear : (a : ℕ) → stmt_sized (Clear a) ≡ false
+pub sized-Clear : (a : ℕ) → stmt_sized (Clear a) ≡ true
 unfolding stmt_sized
 sized-Clear a = ap (λ (z : Stmt). fold-Stmt Bool stmt_layer z) (sym (statement.rolls-Clear a)) ∙ fold-roll-Stmt Bool stmt_layer (Stmt-F.Clear a)
 
@@ -120,7 +120,7 @@ pub sized-StmtCall : (p : Option Place) (g : ℕ) (es : List Expr) → stmt_size
 unfolding stmt_sized
 sized-StmtCall p g es = ap (λ (z : Stmt). fold-Stmt Bool stmt_layer z) (sym (statement.rolls-Call p g es)) ∙ fold-roll-Stmt Bool stmt_layer (Stmt-F.Call p g es)
 
-pub sized-Out : (p : Option Place) (g : ℕ) (e : Expr) (es : List Expr) → stmt_sized (Out p g e es) ≡ false
+pub sized-Out : (p : Option Place) (g : ℕ) (e : Expr) (es : List Expr) → stmt_sized (Out p g e es) ≡ (place_sized_if p && (expr_sized e && list_all expr_sized es))
 unfolding stmt_sized
 sized-Out p g e es = ap (λ (z : Stmt). fold-Stmt Bool stmt_layer z) (sym (statement.rolls-Out p g e es)) ∙ fold-roll-Stmt Bool stmt_layer (Stmt-F.Out p g e es)
 

@@ -7,6 +7,6 @@ abbrev pub Ran : {A E : Type 0} → A × World → Result A E → World → Type
 Ran outcome (Ok a) new = outcome ≡ (a, new)
 Ran outcome (Err e) new = Unit {0}
 
--- only scalars differ
+-- mappings stay as they are
 abbrev pub Kept : State → State → Type 0
-Kept old new = (new.maps ≡ old.maps) × (new.arrays ≡ old.arrays)
+Kept old new = new.maps ≡ old.maps

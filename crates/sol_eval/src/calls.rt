@@ -124,7 +124,7 @@ fn returned(ret: Option<u32>, w: &World) -> i128
 {
     match ret {
         None => 0,
-        Some(i) => number_at(w.locals.as_slice(), i),
+        Some(i) => number_at(w.locals.as_slice(), i as usize),
     }
 }
 

@@ -147,6 +147,6 @@ fn build_arg(given: &[i128], arg: BuildArg) -> i128
 {
     match arg {
         BuildArg::Num(n) => n,
-        BuildArg::Param(i) => number_at(given, i),
+        BuildArg::Param(i) => number_at(given, i as usize),
     }
 }

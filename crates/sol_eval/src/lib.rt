@@ -2,6 +2,8 @@
 //! definitions of `sol_meaning` give them.
 #![tactic(auto)]
 
+mod answers;
+mod arrays;
 mod calls;
 mod deployment;
 mod frames;

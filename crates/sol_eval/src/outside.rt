@@ -1,6 +1,6 @@
 // Calls from outside.
 
-ghost use Rattle.std.specs.Prelude.{◌≡◌, OnOk};
+ghost use Rattle.std.specs.Prelude.{◌≡◌, OnOk, IfOk};
 ghost use Rattle.sol_core.specs.declared.Call.{out-Call};
 ghost use Rattle.sol_core.specs.Doors.{door};
 ghost use Rattle.sol_meaning.specs.Exec.{call_each, call_once, caller_of, settled};
@@ -34,19 +34,20 @@ impl<F: Fn(Global, &Frame, u32, &[i128], &mut World) -> Result<Got<i128>, NoMemo
         Ok(false)
     }
 
-    // Only scalars are ever written, so they alone are kept for a revert.
+    // Mappings are never written, so what is kept for a revert is the scalars and the arrays.
     #[tactic(auto, using(crate::proofs::Restored::restored))]
     fn call_once(&self, is_static: bool, c: &Call, w: &mut World) -> Result<bool, NoMemory>
         requires runs { Makes self.now.frame.program.now self.now.frame.level (F.pre self.now.call) (F.post self.now.call) }
         ensures ran { Ran (call_once (frame_in self.now.frame).level is_static c.now w.old) result w.new }
         ensures kept { Kept w.old.state w.new.state }
     {
-        let before = w.state.scalars.copy(self.alloc)?;
+        let scalars = w.state.scalars.copy(self.alloc)?;
+        let arrays = copy_arrays(self.alloc, w.state.arrays.as_slice())?;
         let taken = w.taken;
         w.taken = 0;
         let got = self.call_from(is_static, c, w)?;
         w.taken = taken;
-        Ok(settle(is_static, before, got, w))
+        Ok(settle(is_static, scalars, arrays, got, w))
     }
 
     fn call_from(&self, is_static: bool, c: &Call, w: &mut World) -> Result<Got<i128>, NoMemory>
@@ -69,24 +70,44 @@ impl<F: Fn(Global, &Frame, u32, &[i128], &mut World) -> Result<Got<i128>, NoMemo
     }
 }
 
-// Whether the run is cut, where a call that changed scalars alone ended so.
-fn settle(is_static: bool, before: List<i128>, got: Got<i128>, w: &mut World) -> bool
-    ensures ran { settled is_static (record w.old { state = record w.old.state { scalars = before } }) (got, w.old) ≡ (result, w.new) }
+// Arrays that are equal to these.
+fn copy_arrays(alloc: Global, arrays: &[List<i128>]) -> Result<List<List<i128>>, NoMemory>
+    ensures { IfOk result (λ all. all ≡ arrays.now) }
+{
+    let mut all = List::new(alloc);
+    for array in arrays {
+        all.push(array.copy(alloc)?)?;
+    }
+    Ok(all)
+}
+
+// Whether the run is cut, where a call that left the mappings as they were ended so.
+fn settle(
+    is_static: bool,
+    scalars: List<i128>,
+    arrays: List<List<i128>>,
+    got: Got<i128>,
+    w: &mut World,
+) -> bool
+    ensures ran { settled is_static (record w.old { state = record w.old.state { scalars = scalars; arrays = arrays } }) (got, w.old) ≡ (result, w.new) }
     ensures kept { Kept w.old.state w.new.state }
 {
     match got {
         Got::Value(_) => {
             if is_static {
-                w.state.scalars = before;
+                w.state.scalars = scalars;
+                w.state.arrays = arrays;
             }
             false
         }
         Got::Reverted => {
-            w.state.scalars = before;
+            w.state.scalars = scalars;
+            w.state.arrays = arrays;
             false
         }
         Got::Cut => {
-            w.state.scalars = before;
+            w.state.scalars = scalars;
+            w.state.arrays = arrays;
             true
         }
     }

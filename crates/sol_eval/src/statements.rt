@@ -5,19 +5,20 @@ ghost use Rattle.std.specs.List.{list_all};
 ghost use Rattle.sol_meaning.specs.declared.world.Got.TheVariants as got;
 ghost use Rattle.sol_meaning.specs.Frames.{and_then};
 ghost use Rattle.sol_meaning.specs.Eval.{eval, is_zero, operated, arithmetic, values_of};
-ghost use Rattle.sol_meaning.specs.Exec.{exec, exec_all, assigned, located, held, stored, given, required, asserted, changed, scoped, ends, tested, goes_on, looped, turned, after_turn};
+ghost use Rattle.sol_meaning.specs.Exec.{exec, exec_all, assigned, located, held, stored, pushed, given, required, asserted, changed, scoped, ends, tested, goes_on, looped, turned, after_turn};
 ghost use Rattle.sol_eval.specs.Ran.{Ran, Kept};
 ghost use Rattle.sol_eval.specs.Framed.{frame_in};
 ghost use Rattle.sol_eval.specs.Makes.{Makes};
-ghost use Rattle.sol_eval.specs.Sized.{expr_sized, place_sized, place_sized_if, stmt_sized};
+ghost use Rattle.sol_eval.specs.Sized.{type_sized, expr_sized, place_sized, place_sized_if, spot_sized, stmt_sized};
 
+use crate::arrays::{clear, pop, push};
 use crate::frames::{Frame, Runner};
-use crate::numbers::is_zero;
-use crate::panics::panic_at;
-use crate::places::{assign, give};
-use chc_nums::NoMemory;
-use sol_core::{Expr, Place, Stmt};
-use sol_meaning::{End, Got, World};
+use crate::numbers::{is_zero, operated};
+use crate::panics::{arithmetic, panic_at};
+use crate::places::{held, store};
+use chc_nums::{NoMemory, Op, Ty};
+use sol_core::{Expr, PanicSites, Place, Stmt};
+use sol_meaning::{End, Got, Spot, World};
 use sqlite_items::Items;
 use std::alloc::Global;
 
@@ -49,6 +50,13 @@ impl<F: Fn(Global, &Frame, u32, &[i128], &mut World) -> Result<Got<i128>, NoMemo
     {
         match s {
             Stmt::Set(place, e) => self.exec_set(place, e, w),
+            Stmt::Step(place, op, ty, checked, e, panics) => self.exec_step(
+                place, *op, *ty, *checked, e, *panics, w,
+            ),
+            Stmt::Push(a, e) => self.exec_push(*a, e, w),
+            Stmt::Pop(a, site) => pop(self.alloc, &self.frame, *a, *site, w),
+            Stmt::Clear(a) => Ok(clear(self.alloc, &self.frame, *a, w)),
+            Stmt::Out(place, f, target, es) => self.exec_out(place, *f, target, es.as_slice(), w),
             Stmt::Call(place, f, es) => self.exec_call(place, *f, es.as_slice(), w),
             Stmt::If(e, a, b) => self.exec_if(e, a.as_slice(), b.as_slice(), w),
             Stmt::While(e, a, b) => self.exec_while(e, a, b, w),
@@ -61,11 +69,6 @@ impl<F: Fn(Global, &Frame, u32, &[i128], &mut World) -> Result<Got<i128>, NoMemo
             Stmt::Assert(e, site) => self.exec_assert(e, *site, w),
             Stmt::Revert(es) => self.exec_revert(es.as_slice(), w),
             Stmt::Emit(es) => self.exec_emit(es.as_slice(), w),
-            Stmt::Step(_, _, _, _, _, _)
-            | Stmt::Push(_, _)
-            | Stmt::Pop(_, _)
-            | Stmt::Clear(_)
-            | Stmt::Out(_, _, _, _) => Ok(Got::Reverted),
         }
     }
 
@@ -108,7 +111,88 @@ impl<F: Fn(Global, &Frame, u32, &[i128], &mut World) -> Result<Got<i128>, NoMemo
         ensures kept { Kept w.old.state w.new.state }
     {
         match self.eval(e, w)? {
-            Got::Value(n) => Ok(assign(&self.frame, place, n, w)),
+            Got::Value(n) => self.assign(place, n, w),
+            Got::Reverted => Ok(Got::Reverted),
+            Got::Cut => Ok(Got::Cut),
+        }
+    }
+
+    // The right side goes first, then the index expressions of the place, and then the old value is read.
+    fn exec_step(
+        &self,
+        place: &Place,
+        op: Op,
+        ty: Ty,
+        checked: bool,
+        e: &Expr,
+        panics: PanicSites,
+        w: &mut World,
+    ) -> Result<Got<End>, NoMemory>
+        requires runs { Makes self.now.frame.program.now self.now.frame.level (F.pre self.now.call) (F.post self.now.call) }
+        requires sized { IsTrue (place_sized place.now && (type_sized ty && expr_sized e.now)) }
+        ensures ran { Ran (and_then (eval (frame_in self.now.frame) e.now w.old) (λ y v. and_then (located (frame_in self.now.frame) place.now v) (λ s u. and_then (arithmetic (operated checked op ty (held u s) y) panics u) (λ z. stored (frame_in self.now.frame) z s)))) result w.new }
+        ensures kept { Kept w.old.state w.new.state }
+    {
+        match self.eval(e, w)? {
+            Got::Value(y) => self.step_by(place, op, ty, checked, y, panics, w),
+            Got::Reverted => Ok(Got::Reverted),
+            Got::Cut => Ok(Got::Cut),
+        }
+    }
+
+    fn step_by(
+        &self,
+        place: &Place,
+        op: Op,
+        ty: Ty,
+        checked: bool,
+        y: i128,
+        panics: PanicSites,
+        w: &mut World,
+    ) -> Result<Got<End>, NoMemory>
+        requires runs { Makes self.now.frame.program.now self.now.frame.level (F.pre self.now.call) (F.post self.now.call) }
+        requires sized { IsTrue (place_sized place.now && type_sized ty) }
+        ensures ran { Ran (and_then (located (frame_in self.now.frame) place.now w.old) (λ s u. and_then (arithmetic (operated checked op ty (held u s) y) panics u) (λ z. stored (frame_in self.now.frame) z s))) result w.new }
+        ensures kept { Kept w.old.state w.new.state }
+    {
+        match self.locate(place, w)? {
+            Got::Value(spot) => self.step_at(spot, op, ty, checked, y, panics, w),
+            Got::Reverted => Ok(Got::Reverted),
+            Got::Cut => Ok(Got::Cut),
+        }
+    }
+
+    fn step_at(
+        &self,
+        spot: Spot,
+        op: Op,
+        ty: Ty,
+        checked: bool,
+        y: i128,
+        panics: PanicSites,
+        w: &mut World,
+    ) -> Result<Got<End>, NoMemory>
+        requires spot { IsTrue (spot_sized spot) }
+        requires sized { IsTrue (type_sized ty) }
+        ensures ran { Ran (and_then (arithmetic (operated checked op ty (held w.old spot) y) panics w.old) (λ z. stored (frame_in self.now.frame) z spot)) result w.new }
+        ensures kept { Kept w.old.state w.new.state }
+    {
+        let n = operated(checked, op, ty, held(spot, w), y);
+        match arithmetic(n, panics, w)? {
+            Got::Value(z) => Ok(store(self.alloc, &self.frame, z, spot, w)),
+            Got::Reverted => Ok(Got::Reverted),
+            Got::Cut => Ok(Got::Cut),
+        }
+    }
+
+    fn exec_push(&self, a: u32, e: &Expr, w: &mut World) -> Result<Got<End>, NoMemory>
+        requires runs { Makes self.now.frame.program.now self.now.frame.level (F.pre self.now.call) (F.post self.now.call) }
+        requires sized { IsTrue (expr_sized e.now) }
+        ensures ran { Ran (and_then (eval (frame_in self.now.frame) e.now w.old) (pushed (frame_in self.now.frame) a)) result w.new }
+        ensures kept { Kept w.old.state w.new.state }
+    {
+        match self.eval(e, w)? {
+            Got::Value(n) => push(self.alloc, &self.frame, a, n, w),
             Got::Reverted => Ok(Got::Reverted),
             Got::Cut => Ok(Got::Cut),
         }
@@ -146,7 +230,7 @@ impl<F: Fn(Global, &Frame, u32, &[i128], &mut World) -> Result<Got<i128>, NoMemo
         ensures kept { Kept w.old.state w.new.state }
     {
         match self.make(f, args, w)? {
-            Got::Value(n) => Ok(give(&self.frame, place, n, w)),
+            Got::Value(n) => self.give(place, n, w),
             Got::Reverted => Ok(Got::Reverted),
             Got::Cut => Ok(Got::Cut),
         }

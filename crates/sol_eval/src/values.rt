@@ -13,7 +13,7 @@ ghost use Rattle.sol_eval.specs.Makes.{Makes};
 ghost use Rattle.sol_eval.specs.Sized.{type_sized, expr_sized};
 
 use crate::frames::{Frame, Runner};
-use crate::numbers::{compared, is_zero, judged, number_at, truth, wrapped};
+use crate::numbers::{compared, is_zero, number_at, operated, truth, wrapped};
 use crate::panics::{arithmetic, element_at, length_at};
 use chc_nums::{List, NoMemory, Op, Ty};
 use sol_core::{Cmp, Expr, PanicSites};
@@ -33,8 +33,8 @@ impl<F: Fn(Global, &Frame, u32, &[i128], &mut World) -> Result<Got<i128>, NoMemo
     {
         match e {
             Expr::Num(n, _) => Ok(Got::Value(*n)),
-            Expr::Local(i) => Ok(Got::Value(number_at(w.locals.as_slice(), *i))),
-            Expr::Scalar(i) => Ok(Got::Value(number_at(w.state.scalars.as_slice(), *i))),
+            Expr::Local(i) => Ok(Got::Value(number_at(w.locals.as_slice(), *i as usize))),
+            Expr::Scalar(i) => Ok(Got::Value(number_at(w.state.scalars.as_slice(), *i as usize))),
             Expr::Len(a) => Ok(Got::Value(length_at(w, *a))),
             Expr::Sender => Ok(Got::Value(self.frame.caller.sender)),
             Expr::ElemAt(a, index, site) => self.element(*a, index, *site, w),
@@ -212,7 +212,7 @@ impl<F: Fn(Global, &Frame, u32, &[i128], &mut World) -> Result<Got<i128>, NoMemo
         w: &mut World,
     ) -> Result<Got<i128>, NoMemory>
         requires runs { Makes self.now.frame.program.now self.now.frame.level (F.pre self.now.call) (F.post self.now.call) }
-        requires sized { IsTrue (checked && (type_sized ty && (expr_sized a.now && expr_sized b.now))) }
+        requires sized { IsTrue (type_sized ty && (expr_sized a.now && expr_sized b.now)) }
         ensures ran { Ran (and_then (eval (frame_in self.now.frame) a.now w.old) (λ x v. and_then (second_of op (eval (frame_in self.now.frame) b.now) v) (λ y u. arithmetic (operated checked op ty x y) panics u))) result w.new }
         ensures kept { Kept w.old.state w.new.state }
     {
@@ -235,12 +235,12 @@ impl<F: Fn(Global, &Frame, u32, &[i128], &mut World) -> Result<Got<i128>, NoMemo
         w: &mut World,
     ) -> Result<Got<i128>, NoMemory>
         requires runs { Makes self.now.frame.program.now self.now.frame.level (F.pre self.now.call) (F.post self.now.call) }
-        requires sized { IsTrue (checked && (type_sized ty && expr_sized b.now)) }
+        requires sized { IsTrue (type_sized ty && expr_sized b.now) }
         ensures ran { Ran (and_then (second_of op (eval (frame_in self.now.frame) b.now) w.old) (λ y u. arithmetic (operated checked op ty x y) panics u)) result w.new }
         ensures kept { Kept w.old.state w.new.state }
     {
         match self.second_of(op, b, w)? {
-            Got::Value(y) => arithmetic(judged(op, ty, x, y), panics, w),
+            Got::Value(y) => arithmetic(operated(checked, op, ty, x, y), panics, w),
             Got::Reverted => Ok(Got::Reverted),
             Got::Cut => Ok(Got::Cut),
         }

@@ -71,6 +71,6 @@ eval_all-loop-e-preserved g t c =
     let added = simp to_z-of_z at c.in_ok-push-in-Value.ensures.added in
     record {
       ran = ap (λ (ns : List ℤ). values_onto ns (map (eval (frame_in c.args.self.now.frame)) rest) c.eval.new.w) added ∙ sym (values_more (frame_in c.args.self.now.frame) c.e-item.result rest c.loop-e.values c.in-Value.n c.loop-e.w c.eval.new.w first) ∙ ap (λ (xs : List Expr). values_onto c.loop-e.values (map (eval (frame_in c.args.self.now.frame)) xs) c.loop-e.w) (sym turn) ∙ c.loop-e.invariant.ran;
-      kept = (c.in_ok-n.ensures.kept.0 ∙ c.loop-e.invariant.kept.0, c.in_ok-n.ensures.kept.1 ∙ c.loop-e.invariant.kept.1);
+      kept = c.in_ok-n.ensures.kept ∙ c.loop-e.invariant.kept;
       sized = rest-sized expr_sized c.e-item.result rest (ap (list_all expr_sized) (sym turn) ∙ c.loop-e.invariant.sized);
     }

@@ -10,7 +10,7 @@ use Rattle.sol_meaning.specs.declared.End.TheVariants as done
 use Rattle.sol_meaning.specs.Frames.{Run, and_then}
 use Rattle.sol_meaning.specs.Eval.{eval}
 use Rattle.sol_meaning.specs.Exec.{exec, exec_all, turned, looped, goes_on, after_turn, tested}
-use Rattle.sol_meaning.proofs.Statements.{exec-Set, exec-DoWhile}
+use Rattle.sol_meaning.proofs.Statements.{exec-Set, exec-Step, exec-Push, exec-Out, exec-DoWhile}
 use Rattle.sol_eval.specs.Ran.{Ran}
 use Rattle.sol_eval.specs.Framed.{frame_in}
 use Rattle.sol_eval.specs.Sized.{stmt_sized}
@@ -25,6 +25,25 @@ exec-returns-in-Set-clause-ran g t c =
     let all = ap (λ (s : Stmt). exec (frame_in c.args.self.now.frame) s c.args.w.now) c.in-Set.is ∙ exec-Set (frame_in c.args.self.now.frame) c.in-Set.place c.in-Set.e c.args.w.now in
     let P : Got End × World → Type 0 = λ o. Ran o c.exec_set.result c.exec_set.new.w in
     subst P (sym all) c.exec_set.ensures.ran
+
+pub exec-returns-in-Step-clause-ran : goal.exec-returns-in-Step-clause-ran
+exec-returns-in-Step-clause-ran g t c =
+    let all = ap (λ (s : Stmt). exec (frame_in c.args.self.now.frame) s c.args.w.now) c.in-Step.is ∙ exec-Step (frame_in c.args.self.now.frame) c.in-Step.place c.in-Step.op c.in-Step.ty c.in-Step.checked c.in-Step.e c.in-Step.panics c.args.w.now in
+    let P : Got End × World → Type 0 = λ o. Ran o c.exec_step.result c.exec_step.new.w in
+    subst P (sym all) c.exec_step.ensures.ran
+
+pub exec-returns-in-Push-clause-ran : goal.exec-returns-in-Push-clause-ran
+exec-returns-in-Push-clause-ran g t c =
+    let all = ap (λ (s : Stmt). exec (frame_in c.args.self.now.frame) s c.args.w.now) c.in-Push.is ∙ exec-Push (frame_in c.args.self.now.frame) c.in-Push.a c.in-Push.e c.args.w.now in
+    let P : Got End × World → Type 0 = λ o. Ran o c.exec_push.result c.exec_push.new.w in
+    subst P (sym all) c.exec_push.ensures.ran
+
+pub exec-returns-in-Out-clause-ran : goal.exec-returns-in-Out-clause-ran
+exec-returns-in-Out-clause-ran g t c =
+    let all = ap (λ (s : Stmt). exec (frame_in c.args.self.now.frame) s c.args.w.now) c.in-Out.is ∙ exec-Out (frame_in c.args.self.now.frame) c.in-Out.place c.in-Out.f c.in-Out.target c.in-Out.es c.args.w.now in
+    let P : Got End × World → Type 0 = λ o. Ran o c.exec_out.result c.exec_out.new.w in
+    let same = rw c.as_slice.ensures at c.exec_out.ensures.ran in
+    subst P (sym all) same
 
 pub exec_all-exec-requires : goal.exec_all-exec-requires
 exec_all-exec-requires g t c κs within =
@@ -43,7 +62,7 @@ exec_all-loop-s-preserved g t c =
     let first : exec (frame_in c.args.self.now.frame) c.s-item.result c.loop-s.w ≡ (got.Value done.Normal, c.exec.new.w) = c.in_ok-other.ensures.ran ∙ ap (λ (r : Got End). (r, c.exec.new.w)) (c.in-Value-Normal.is ∙ ap (λ (e : End). got.Value e) c.in-Value-Normal.field-0-is) in
     record {
       ran = sym (all_more (frame_in c.args.self.now.frame) c.s-item.result rest c.loop-s.w c.exec.new.w first) ∙ ap (λ (xs : List Stmt). exec_all (frame_in c.args.self.now.frame) xs c.loop-s.w) (sym turn) ∙ c.loop-s.invariant.ran;
-      kept = (c.in_ok-other.ensures.kept.0 ∙ c.loop-s.invariant.kept.0, c.in_ok-other.ensures.kept.1 ∙ c.loop-s.invariant.kept.1);
+      kept = c.in_ok-other.ensures.kept ∙ c.loop-s.invariant.kept;
       sized = rest-sized stmt_sized c.s-item.result rest (ap (list_all stmt_sized) (sym turn) ∙ c.loop-s.invariant.sized);
     }
 
@@ -65,7 +84,7 @@ looped-loop-turn-preserved g t c =
     let more : looped left here body step c.loop-turn.w ≡ looped (left - 1) here body step c.turn.new.w = looped-more left here body step c.loop-turn.w some ∙ ap (λ (s : Got (Option End) × World). and_then s (λ o. goes_on o (looped (left - 1) here body step))) first in
     record {
       ran = ap (λ (k : ℕ). looped k here body step c.turn.new.w) (sym less) ∙ sym more ∙ c.loop-turn.invariant.ran;
-      kept = (c.in_ok-turn.ensures.kept.0 ∙ c.loop-turn.invariant.kept.0, c.in_ok-turn.ensures.kept.1 ∙ c.loop-turn.invariant.kept.1);
+      kept = c.in_ok-turn.ensures.kept ∙ c.loop-turn.invariant.kept;
     }
 
 pub step-returns-in-Value-Normal-clause-ran : goal.step-returns-in-Value-Normal-clause-ran
