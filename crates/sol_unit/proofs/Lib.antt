@@ -1,0 +1,5 @@
+pub mod Reading
+pub mod Alone
+pub mod Growing
+pub mod Sharing
+pub mod Marking

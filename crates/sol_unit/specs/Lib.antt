@@ -1,0 +1,12 @@
+pub mod Listing
+pub mod Reads
+pub mod Added
+pub mod Variables
+pub mod Functions
+pub mod Parameters
+pub mod Lineages
+pub mod Outers
+pub mod Files
+pub mod Scenes
+pub mod Marks
+pub mod Judging
