@@ -28,3 +28,5 @@ mod shared_pool;
 mod simplex;
 #[cfg(test)]
 mod templates;
+#[cfg(test)]
+mod two_passes;

@@ -32,29 +32,29 @@ fn batch_at(alloc: Global, s: &Arc<System>, turn: usize) -> Option<Batch>
     }
 }
 
-// A batch is published. Memory may be wanted once.
+// A batch is published, at a place. Memory may be wanted once.
 #[tactic(auto, using(crate::proofs::Turning::turning))]
-fn publish<R: Wait>(
+pub fn publish<R: Wait>(
     rt: &R,
     lock: &PoolLock<Pool>,
     s: &Arc<System>,
     pass: &mut Pass<Pool>,
     have: &List<Lemma>,
     batch: Batch,
-) -> bool
+) -> Option<u64>
     requires ready { IsReady lock.now.table.shared.table_id (arc_value s.now) have.now pass.old }
     requires fits { (batch.system ≡ arc_value s.now) × (batch.base ≡ []) }
     ensures { IsReady lock.now.table.shared.table_id (arc_value s.now) have.now pass.new }
 {
     match lock.publish(rt, pass, batch) {
-        Ok(_) => true,
-        Err((back, _)) => lock.publish(rt, pass, back).is_ok(),
+        Ok(at) => Some(at),
+        Err((back, _)) => lock.publish(rt, pass, back).ok(),
     }
 }
 
 // A look. Memory may be wanted once.
 #[tactic(auto, using(crate::proofs::Turning::turning))]
-fn look<R: Wait>(
+pub fn look<R: Wait>(
     rt: &R,
     lock: &PoolLock<Pool>,
     s: &Arc<System>,
@@ -85,7 +85,7 @@ fn take_turn<R: Wait>(
 {
     match batch_at(alloc, s, turn) {
         Some(batch) => {
-            publish(rt, lock, s, pass, have, batch)
+            publish(rt, lock, s, pass, have, batch).is_some()
                 && look(rt, lock, s, pass, have)
                 && have.len() > turn
         }
